@@ -1,0 +1,87 @@
+-- The promises of reading, and of reading and writing together, over what the public calls answer: `r ≡ answered (readLeading d)`, `written t s d` and
+-- `leaves t s d`. The promises of writing alone stand in `Measured`. Assumes nothing.
+use Prim.Native.Nat.{ℕ, _≤_}
+use mathlib.Core.Path.{_≡_, sym, ap, _∙_, subst}
+use mathlib.Core.Logic.{_↔_}
+use mathlib.Core.List.{List}
+use native.Mathlib.Omega.{arith}
+use lib.ListN.{length}
+use Rattle.octets.specs.Octets.{Octets}
+use Rattle.reference.specs.declared.Tables.{Tables}
+use Rattle.reference.specs.declared.Refusal.{Refusal}
+use Rattle.reference.specs.declared.Reading.{Reading}
+use Rattle.reference.specs.declared.Answer.the-variants.{Count, Refused}
+use Rattle.reference.specs.Meaning.{Reference}
+use Rattle.reference.specs.Layout.{Leads}
+use Rattle.reference.specs.Reader.{Answer, ok, refused, readLeading, readWhole}
+use Rattle.reference.specs.Tables.{tablesOf, tabled, noTables}
+use Rattle.reference.specs.Writer.{answered}
+use Rattle.reference.proofs.Accept.{accepted, only-accepted, whole, unique}
+use Rattle.reference.proofs.Shows.{ShowsFields, fields-shown}
+use Rattle.reference.proofs.Written.{GivesBack, part-given-back}
+
+-- ---- from a declared answer to the definition's
+
+counts : (a : Answer Reference) (n : ℕ) → answered a .answer ≡ Count n → (m : Reference) × (a ≡ ok m n)
+counts (ok m k) n e = let q : k ≡ n = cc in (m, ap (λ (x : ℕ). ok m x) q)
+counts (refused x) n e = let z : _≡_ {A = ℕ} 0 1 = cc in absurd (omega arith)
+
+refuses : (a : Answer Reference) (x : Refusal) → answered a .answer ≡ Refused x → a ≡ refused x
+refuses (ok m k) x e = let z : _≡_ {A = ℕ} 0 1 = cc in absurd (omega arith)
+refuses (refused y) x e = let q : y ≡ x = cc in ap (λ (z : Refusal). refused z) q
+
+-- the reading that accepts n octets with the tables t
+abbrev taking : ℕ → Tables → Reading
+taking n t = record { answer = Count n; tables = t }
+
+taken : (a : Answer Reference) (n : ℕ) (t : Tables) → answered a ≡ taking n t → (m : Reference) × (a ≡ ok m n) × (t ≡ tabled (tablesOf m))
+taken a n t e =
+    let (m, q) = counts a n (ap (λ (r : Reading). r .answer) e) in
+    (m, q, sym (ap (λ (r : Reading). r .tables) e) ∙ ap (λ (x : Answer Reference). answered x .tables) q)
+
+takes : (a : Answer Reference) (m : Reference) (n : ℕ) (t : Tables) → a ≡ ok m n → t ≡ tabled (tablesOf m) → answered a ≡ taking n t
+takes a m n t e q = ap (λ (x : Answer Reference). answered x) e ∙ ap (λ (x : Tables). taking n x) (sym q)
+
+-- A slice of up to 65,535 octets is accepted by the leading reading with n octets and the tables t exactly when its first n octets are the layout of a
+-- well-formed meaning that fits the tables, and t are that meaning's.
+pub accepts-exactly : (d : List ℕ) → Octets d → length d ≤ 65535 → (n : ℕ) (t : Tables)
+    → (answered (readLeading d) ≡ taking n t) ↔ ((m : Reference) × (Leads d m n) × (t ≡ tabled (tablesOf m)))
+accepts-exactly d o small n t = (
+  λ e. let (m, q, p) = taken (readLeading d) n t e in (m, only-accepted d o m n q .1, p),
+  λ h. takes (readLeading d) (h .0) n t (accepted d o small (h .0) n (h .1)) (h .2),
+)
+
+-- The same of the whole slice, with n its length.
+pub accepts-whole-exactly : (d : List ℕ) → Octets d → length d ≤ 65535 → (n : ℕ) (t : Tables)
+    → (answered (readWhole d) ≡ taking n t) ↔ ((m : Reference) × (Leads d m n) × (n ≡ length d) × (t ≡ tabled (tablesOf m)))
+accepts-whole-exactly d o small n t = (
+  λ e. let (m, q, p) = taken (readWhole d) n t e in let w = whole d o small m n .0 q in (m, w .0, w .1, p),
+  λ h. takes (readWhole d) (h .0) n t (whole d o small (h .0) n .1 (h .1, h .2)) (h .3),
+)
+
+-- Part and meaning are unique.
+pub one-part-one-meaning : (d : List ℕ) → Octets d → (m m′ : Reference) (n n′ : ℕ) → Leads d m n → Leads d m′ n′ → (m ≡ m′) × (n ≡ n′)
+one-part-one-meaning d o m m′ n n′ l l′ = unique d o m m′ n n′ l l′
+
+-- The tables of an accepted reading: each view shows the very octets of its field; unused entries are zero; the sums equal the used counts.
+pub views-show-their-fields : (d : List ℕ) → Octets d → (n : ℕ) → answered (readLeading d) .answer ≡ Count n
+    → (m : Reference) × (Leads d m n) × (ShowsFields d m (answered (readLeading d) .tables))
+views-show-their-fields d o n e =
+    let (m, q) = counts (readLeading d) n e in
+    let l = only-accepted d o m n q .1 in
+    (m, l, subst (λ (a : Answer Reference). ShowsFields d m (answered a .tables)) (sym q) (fields-shown d m n l))
+
+-- A refused reading gives the empty tables.
+pub refused-reading-is-empty : (d : List ℕ) (x : Refusal) → answered (readLeading d) .answer ≡ Refused x → answered (readLeading d) .tables ≡ noTables
+refused-reading-is-empty d x e = ap (λ (a : Answer Reference). answered a .tables) (refuses (readLeading d) x e)
+
+pub refused-whole-is-empty : (d : List ℕ) (x : Refusal) → answered (readWhole d) .answer ≡ Refused x → answered (readWhole d) .tables ≡ noTables
+refused-whole-is-empty d x e = ap (λ (a : Answer Reference). answered a .tables) (refuses (readWhole d) x e)
+
+-- Writing the tables of an accepted reading over the same octets into any output with room answers the part's length and leaves the part, save an
+-- address's constants: octet by octet.
+pub write-gives-back : (d : List ℕ) → Octets d → (n : ℕ) → answered (readLeading d) .answer ≡ Count n → (out : List ℕ) → n ≤ length out
+    → (m : Reference) × (Leads d m n) × (GivesBack d m (answered (readLeading d) .tables) n out)
+write-gives-back d o n e out room =
+    let (m, q) = counts (readLeading d) n e in
+    (m, only-accepted d o m n q .1, subst (λ (a : Answer Reference). GivesBack d m (answered a .tables) n out) (sym q) (part-given-back d o m n q out room))

@@ -1,0 +1,281 @@
+// An object reference as tables over the caller's slice (document 01, "Tables"): the types that callers hold, the empty tables, the wire's
+// constants, and one constructor for each sort of refusal. What a reader must believe of them stands in specs/.
+ghost use mathlib.Core.Path.{_≡_};
+ghost use Prim.Native.Nat.{_+_, _≤_, _<_};
+ghost use lib.Dec.{leb, eqb};
+ghost use Rattle.reference.specs.Reader.{refused, refusal};
+ghost use Rattle.reference.specs.Tables.{noTables};
+ghost use Rattle.reference.specs.Checks as Checks;
+ghost use Rattle.reference.specs.Checks.{test};
+
+// A run of octets in the caller's slice.
+pub struct View {
+    pub at: u32,
+    pub len: u32,
+}
+
+pub struct Tap {
+    pub id: u16,
+    pub use_: u16,
+    pub association: u16,
+    pub selector: View,
+}
+
+pub struct NameComponent {
+    pub id: View,
+    pub kind: View,
+}
+
+pub struct LiteComponent {
+    pub tag: u32,
+    pub data: View,
+}
+
+pub struct ObjectLocation {
+    pub carousel: u32,
+    pub module: u16,
+    pub version_major: u8,
+    pub version_minor: u8,
+    pub key: View,
+}
+
+// What varies in an address of twenty octets; the constants belong to the kind itself.
+pub struct NsapAddress {
+    pub carousel: u32,
+    pub specifier0: u8,
+    pub specifier1: u8,
+    pub specifier2: u8,
+    pub transport_stream: u16,
+    pub original_network: u16,
+    pub service: u16,
+}
+
+impl NsapAddress {
+    pub const AFI: u8 = 0x00;
+
+    pub const NSAP_TYPE: u8 = 0x00;
+
+    pub const SPECIFIER_TYPE: u8 = 0x01;
+
+    pub const RESERVED: u32 = 0xFFFFFFFF;
+}
+
+// A profile's taps, names and extras are the next so many of the tables. Opaque comes first: an unused entry is an opaque one.
+pub enum TaggedProfile {
+    Opaque {
+        tag: u32,
+        data: View,
+    },
+    Biop {
+        location: ObjectLocation,
+        taps: u32,
+        extras: u32,
+    },
+    LiteOptions {
+        address: NsapAddress,
+        names: u32,
+        context: View,
+        extras: u32,
+    },
+}
+
+pub struct Profile {
+    pub body: TaggedProfile,
+}
+
+pub struct Tables {
+    pub type_id: View,
+    pub profiles_used: u32,
+    pub taps_used: u32,
+    pub names_used: u32,
+    pub extras_used: u32,
+    pub profiles: [Profile; 8],
+    pub taps: [Tap; 36],
+    pub names: [NameComponent; 32],
+    pub extras: [LiteComponent; 32],
+}
+
+// Why something is refused: document 01's number, place and two figures.
+pub struct Refusal {
+    pub number: u8,
+    pub place: u8,
+    pub first: usize,
+    pub second: usize,
+}
+
+// Octets consumed or written, or the refusal.
+pub enum Answer {
+    Count(usize),
+    Refused(Refusal),
+}
+
+pub struct Reading {
+    pub answer: Answer,
+    pub tables: Tables,
+}
+
+// What a check finds.
+pub enum Check {
+    Pass,
+    Refuse(Refusal),
+}
+
+pub const PROFILES: usize = 8;
+
+pub const TAPS: usize = 36;
+
+pub const NAMES: usize = 32;
+
+pub const EXTRAS: usize = 32;
+
+// The most octets that a source or an image may have.
+pub const MOST: usize = 65535;
+
+pub const TAG_BIOP: u32 = 0x49534F06;
+
+pub const TAG_LITE_OPTIONS: u32 = 0x49534F05;
+
+pub const TAG_OBJECT_LOCATION: u32 = 0x49534F50;
+
+pub const TAG_CONN_BINDER: u32 = 0x49534F40;
+
+pub const TAG_SERVICE_LOCATION: u32 = 0x49534F46;
+
+// Tables that hold nothing: zero throughout.
+pub fn no_tables() -> Tables
+    ensures { λ r. ⌜ r ≡ noTables ⌝ }
+{
+    let v = View { at: 0, len: 0 };
+    let body = TaggedProfile::Opaque { tag: 0, data: v };
+    let p = Profile { body };
+    let t = Tap {
+        id: 0,
+        use_: 0,
+        association: 0,
+        selector: v,
+    };
+    let n = NameComponent { id: v, kind: v };
+    let x = LiteComponent { tag: 0, data: v };
+    let profiles = [p; 8];
+    let taps = [t; 36];
+    let names = [n; 32];
+    let extras = [x; 32];
+    Tables {
+        type_id: v,
+        profiles_used: 0,
+        taps_used: 0,
+        names_used: 0,
+        extras_used: 0,
+        profiles,
+        taps,
+        names,
+        extras,
+    }
+}
+
+// 1: a field or its data is cut off.
+pub fn cut(place: u8, need: usize, have: usize) -> Refusal
+    ensures { λ r. ⌜ r ≡ refusal 1 place need have ⌝ }
+{
+    Refusal {
+        number: 1,
+        place,
+        first: need,
+        second: have,
+    }
+}
+
+// 1: octets are left over.
+pub fn left_over(place: u8, count: usize) -> Refusal
+    ensures { λ r. ⌜ r ≡ refusal 1 place count 0 ⌝ }
+{
+    Refusal {
+        number: 1,
+        place,
+        first: count,
+        second: 0,
+    }
+}
+
+// 2: a length passes what is there, or what its field can say.
+pub fn too_long(declared: usize, available: usize) -> Refusal
+    ensures { λ r. ⌜ r ≡ refusal 2 0 declared available ⌝ }
+{
+    Refusal {
+        number: 2,
+        place: 0,
+        first: declared,
+        second: available,
+    }
+}
+
+// 3, 4 or 8: a value or a count is wrong; the place says which.
+pub fn wrong(number: u8, place: u8) -> Refusal
+    ensures { λ r. ⌜ r ≡ refusal number place 0 0 ⌝ }
+{
+    Refusal {
+        number,
+        place,
+        first: 0,
+        second: 0,
+    }
+}
+
+// 5: the output is too small.
+pub fn no_room(need: usize, have: usize) -> Refusal
+    ensures { λ r. ⌜ r ≡ refusal 5 0 need have ⌝ }
+{
+    Refusal {
+        number: 5,
+        place: 0,
+        first: need,
+        second: have,
+    }
+}
+
+// 6 or 10: an input or an image is over 65,535 octets.
+pub fn too_large(number: u8, length: usize) -> Refusal
+    ensures { λ r. ⌜ r ≡ refusal number 0 length 65535 ⌝ }
+{
+    Refusal {
+        number,
+        place: 0,
+        first: length,
+        second: MOST,
+    }
+}
+
+// 7: a table is too small.
+pub fn too_many(place: u8, need: usize, size: usize) -> Refusal
+    ensures { λ r. ⌜ r ≡ refusal 7 place need size ⌝ }
+{
+    Refusal {
+        number: 7,
+        place,
+        first: need,
+        second: size,
+    }
+}
+
+// 9: a view passes the source's end.
+pub fn outside(place: u8, v: View) -> Refusal
+    ensures { λ r. ⌜ r ≡ refusal 9 place (v .at) (v .len) ⌝ }
+{
+    Refusal {
+        number: 9,
+        place,
+        first: v.at as usize,
+        second: v.len as usize,
+    }
+}
+
+// The view of a field that stands at `at` in data which itself stands at `base` in the caller's slice.
+pub fn view_of(base: usize, at: usize, len: usize) -> View
+    requires { ⌜ base + at + len ≤ 65535 ⌝ }
+    ensures { λ r. ⌜ r ≡ record { at = base + at; len = len } ⌝ }
+{
+    View {
+        at: (base + at) as u32,
+        len: len as u32,
+    }
+}
