@@ -44,6 +44,12 @@ extrasIn (Sort.Biop l nt ne) = ne
 extrasIn (Sort.LiteOptions a nn c ne) = ne
 extrasIn (Sort.Opaque t v) = 0
 
+-- the view that a profile holds: its key, its context or its data
+abbrev pub bodyView : TaggedProfile → View
+bodyView (Sort.Opaque t v) = v
+bodyView (Sort.Biop l nt ne) = l .key
+bodyView (Sort.LiteOptions a nn c ne) = c
+
 -- a profile with its own entries
 pub record Own : Type 0 where
   pub body : TaggedProfile
