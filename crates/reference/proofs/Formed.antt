@@ -1,5 +1,5 @@
 -- What accepted tables say is a well-formed reference that the tables hold. Assumes nothing.
-use Prim.Native.Nat.{ℕ, suc, _+_, _%_, _≤_}
+use Prim.Native.Nat.{ℕ, suc, _+_, _%_, _^_, _<_, _≤_}
 use mathlib.Core.Path.{_≡_, refl, ap, _∙_}
 use mathlib.Core.List.{List, [], _∷_, map}
 use native.Mathlib.Omega.{arith}
@@ -16,15 +16,25 @@ use Rattle.reference.specs.declared.TaggedProfile.the-variants as Sort
 use Rattle.reference.specs.declared.Profile.{Profile as Entry}
 use Rattle.reference.specs.declared.Tables.{Tables}
 use Rattle.reference.specs.declared.Check.the-variants.{Pass}
-use Rattle.reference.specs.Layout.{GoodTap, GoodExtra, GoodName, GoodProfile, WellFormed}
+use Rattle.reference.specs.Meaning.{Profile}
+use Rattle.reference.specs.Layout.{GoodTap, GoodExtra, GoodName, tagOf, dataOf, GoodProfile, layoutOf, WellFormed}
 use Rattle.reference.specs.Tables.{Own, owned, ownedOf, tapsIn, namesIn, extrasIn, shown, tapOf, extraOf, nameOf, bodyOf, profileOf, contents, usedOf, TapFits, ExtraFits, BodyFits, EntryFits, Typed, UnknownBody, Unknown}
 use Rattle.reference.specs.Checks.{each, sum}
 use Rattle.reference.specs.Writer.{tapSize, locationSize, binderSize, ownSize, bodySize, sizeOf, counted, countsCheck, viewCheck, bodyViews, tapViews, nameViews, extraViews, viewsCheck, extraShort, bodyShort, ownShort, measureCheck, writeCheck}
+use Rattle.reference.specs.Promises.{Agrees}
 use Rattle.octets.proofs.Part.{octets-part}
+use Rattle.reference.proofs.Octs.{Sendable, good-sendable, sendable-octets}
 use Rattle.reference.proofs.Checks.{passes, test-le, test-eq, each-cons, holds-take, holds-drop}
 use Rattle.reference.proofs.Sizes.{length-map, ownViews, length-shown, location-size, binder-size, service-size, body-size, views-own}
 
 -- ---- each part
+
+-- a profile that passes the checks, of which Q holds, says something of which P holds
+abbrev Says : List ℕ → (TaggedProfile → Type 0) → (Profile → Type 0) → Type 0
+Says s Q P = (b : TaggedProfile) (ts : List TapEntry) (ns : List NameComponent) (es : List LiteComponent)
+    → bodyViews (length s) b ≡ Pass → each (tapViews (length s)) ts ≡ Pass → each (nameViews (length s)) ns ≡ Pass → each (extraViews (length s)) es ≡ Pass
+    → bodyShort b ts es ≡ Pass → bodySize b ts ns es ≤ 65535 → BodyFits b → Q b → Each TapFits ts → Each ExtraFits es
+    → length ts ≤ 36 → length ns ≤ 32 → length es ≤ 32 → P (bodyOf s b (map (tapOf s) ts) (map (nameOf s) ns) (map (extraOf s) es))
 
 module _ (s : List ℕ) (o : Octets s) (small : length s ≤ 65535) where
   -- a view's octets, and how many
@@ -58,10 +68,7 @@ module _ (s : List ℕ) (o : Octets s) (small : length s ≤ 65535) where
       let short : e .«data» .len ≤ 255 = test-le _ _ _ y in
       (record { tag = f .0 .tag; bytes = omega arith; octets = x }, extras-good l q z (f .1))
 
-  body-good : (b : TaggedProfile) (ts : List TapEntry) (ns : List NameComponent) (es : List LiteComponent)
-      → bodyViews (length s) b ≡ Pass → each (tapViews (length s)) ts ≡ Pass → each (nameViews (length s)) ns ≡ Pass → each (extraViews (length s)) es ≡ Pass
-      → bodyShort b ts es ≡ Pass → bodySize b ts ns es ≤ 65535 → BodyFits b → UnknownBody b → Each TapFits ts → Each ExtraFits es
-      → length ts ≤ 36 → length ns ≤ 32 → length es ≤ 32 → GoodProfile (bodyOf s b (map (tapOf s) ts) (map (nameOf s) ns) (map (extraOf s) es))
+  body-good : Says s UnknownBody GoodProfile
   body-good (Sort.Biop l nt ne) ts ns es hb ht hn he k size f u ft fe lt ln le =
       let (kl, r) = passes _ _ k in
       let (kb, ke) = passes _ _ r in
@@ -112,53 +119,61 @@ module _ (s : List ℕ) (o : Octets s) (small : length s ≤ 65535) where
       let (n, m, x) = under 40 v hb in
       record { fits = omega (arith, body-size s (Sort.Opaque t v) ts ns es hb ht hn he); body = record { tag = f; notBiop = u .0; notLite = u .1; octets = x } }
 
+  -- its octets are octets, also of an opaque one under a known tag
+  body-sent : Says s (λ b. Unit {0}) Sendable
+  unfolding tagOf dataOf
+  body-sent (Sort.Biop l nt ne) ts ns es hb ht hn he k size f u ft fe lt ln le = good-sendable _ (body-good (Sort.Biop l nt ne) ts ns es hb ht hn he k size f tt ft fe lt ln le)
+  body-sent (Sort.LiteOptions a nn c ne) ts ns es hb ht hn he k size f u ft fe lt ln le = good-sendable _ (body-good (Sort.LiteOptions a nn c ne) ts ns es hb ht hn he k size f tt ft fe lt ln le)
+  body-sent (Sort.Opaque t v) ts ns es hb ht hn he k size f u ft fe lt ln le =
+      let (n, m, x) = under 40 v hb in
+      record { tag = f; fits = omega (arith, body-size s (Sort.Opaque t v) ts ns es hb ht hn he); wire = record { it = x } }
+
 -- ---- a profile with its own entries
 
-record OwnFits (o : Own) : Type 0 where
+record OwnFits (Q : TaggedProfile → Type 0) (o : Own) : Type 0 where
   body : BodyFits (o .body)
-  unknown : UnknownBody (o .body)
+  holds : Q (o .body)
   taps : Each TapFits (o .taps)
   extras : Each ExtraFits (o .extras)
   tapsCount : length (o .taps) ≤ 36
   namesCount : length (o .names) ≤ 32
   extrasCount : length (o .extras) ≤ 32
 
-owned-fits : (l : List Entry) (ts : List TapEntry) (ns : List NameComponent) (es : List LiteComponent) → Each EntryFits l → Each Unknown l → Each TapFits ts → Each ExtraFits es
-    → length ts ≤ 36 → length ns ≤ 32 → length es ≤ 32 → Each OwnFits (owned l ts ns es)
-owned-fits [] ts ns es f u ft fe lt ln le = tt
-owned-fits (p ∷ l) ts ns es f u ft fe lt ln le =
+owned-fits : (Q : TaggedProfile → Type 0) (l : List Entry) (ts : List TapEntry) (ns : List NameComponent) (es : List LiteComponent) → Each EntryFits l → Each (λ p. Q (p .body)) l → Each TapFits ts → Each ExtraFits es
+    → length ts ≤ 36 → length ns ≤ 32 → length es ≤ 32 → Each (OwnFits Q) (owned l ts ns es)
+owned-fits Q [] ts ns es f u ft fe lt ln le = tt
+owned-fits Q (p ∷ l) ts ns es f u ft fe lt ln le =
     let a = tapsIn (p .body) in
     let b = namesIn (p .body) in
     let c = extrasIn (p .body) in (
       record {
         body = f .0;
-        unknown = u .0;
+        holds = u .0;
         taps = holds-take TapFits a ts ft;
         extras = holds-take ExtraFits c es fe;
         tapsCount = omega (arith, length-take a ts);
         namesCount = omega (arith, length-take b ns);
         extrasCount = omega (arith, length-take c es);
       },
-      owned-fits l (drop a ts) (drop b ns) (drop c es) (f .1) (u .1) (holds-drop TapFits a ts ft) (holds-drop ExtraFits c es fe)
+      owned-fits Q l (drop a ts) (drop b ns) (drop c es) (f .1) (u .1) (holds-drop TapFits a ts ft) (holds-drop ExtraFits c es fe)
           (omega (arith, length-drop a ts)) (omega (arith, length-drop b ns)) (omega (arith, length-drop c es)),
     )
 
-module _ (s : List ℕ) (o : Octets s) (small : length s ≤ 65535) where
-  own-good : (x : Own) → ownViews (length s) x ≡ Pass → ownShort x ≡ Pass → ownSize x ≤ 65535 → OwnFits x → GoodProfile (profileOf s x)
+module _ (s : List ℕ) (Q : TaggedProfile → Type 0) (P : Profile → Type 0) (one : Says s Q P) where
+  own-says : (x : Own) → ownViews (length s) x ≡ Pass → ownShort x ≡ Pass → ownSize x ≤ 65535 → OwnFits Q x → P (profileOf s x)
   unfolding ownViews
-  own-good x h k size f =
+  own-says x h k size f =
       let (h₁, r₁) = passes _ _ h in
       let (h₂, r₂) = passes _ _ r₁ in
       let (h₃, h₄) = passes _ _ r₂ in
-      body-good s o small (x .body) (x .taps) (x .names) (x .extras) h₁ h₂ h₃ h₄ k (omega arith) (f .body) (f .unknown) (f .taps) (f .extras)
-      (f .tapsCount) (f .namesCount) (f .extrasCount)
+      one (x .body) (x .taps) (x .names) (x .extras) h₁ h₂ h₃ h₄ k (omega arith) (f .body) (f .holds) (f .taps) (f .extras) (f .tapsCount) (f .namesCount) (f .extrasCount)
 
-  owns-good : (l : List Own) → each (ownViews (length s)) l ≡ Pass → each ownShort l ≡ Pass → sum ownSize l ≤ 65535 → Each OwnFits l → Each GoodProfile (map (profileOf s) l)
-  owns-good [] h k size f = tt
-  owns-good (x ∷ l) h k size f =
+  owns-say : (l : List Own) → each (ownViews (length s)) l ≡ Pass → each ownShort l ≡ Pass → sum ownSize l ≤ 65535 → Each (OwnFits Q) l → Each P (map (profileOf s) l)
+  owns-say [] h k size f = tt
+  owns-say (x ∷ l) h k size f =
       let (p, q) = each-cons (ownViews (length s)) x l h in
       let (y, z) = each-cons ownShort x l k in
-      (own-good x p y (omega arith) (f .0), owns-good l q z (omega arith) (f .1))
+      (own-says x p y (omega arith) (f .0), owns-say l q z (omega arith) (f .1))
 
 pub length-owned : (l : List Entry) (ts : List TapEntry) (ns : List NameComponent) (es : List LiteComponent) → length (owned l ts ns es) ≡ length l
 length-owned [] ts ns es = refl
@@ -230,16 +245,6 @@ passing t n m h =
       short = h₂;
     }
 
--- used counts and sums agree with the used entries
-pub record Agrees (t : Tables) : Type 0 where
-  pub profiles : length (usedOf t .profiles) ≡ t .«profiles_used»
-  pub taps : length (usedOf t .taps) ≡ t .«taps_used»
-  pub names : length (usedOf t .names) ≡ t .«names_used»
-  pub extras : length (usedOf t .extras) ≡ t .«extras_used»
-  pub tapsSum : counted tapsIn (usedOf t .profiles) ≡ t .«taps_used»
-  pub namesSum : counted namesIn (usedOf t .profiles) ≡ t .«names_used»
-  pub extrasSum : counted extrasIn (usedOf t .profiles) ≡ t .«extras_used»
-
 pub agrees : (t : Tables) (n m : ℕ) → Typed t → Passing t n m → Agrees t
 agrees t n m y p =
     record {
@@ -252,20 +257,57 @@ agrees t n m y p =
       extrasSum = p .extrasSum;
     }
 
--- what accepted tables say is well-formed
-pub formed : (s : List ℕ) → Octets s → (t : Tables) (m : ℕ) → Typed t → Each Unknown (usedOf t .profiles) → Passing t (length s) m → WellFormed (contents s (usedOf t))
-unfolding sizeOf viewsCheck
-formed s o t m y u p =
+-- what accepted tables say of their profiles
+all-say : (s : List ℕ) (Q : TaggedProfile → Type 0) (P : Profile → Type 0) → Says s Q P → (t : Tables) (m : ℕ) → Typed t → Each (λ p. Q (p .body)) (usedOf t .profiles)
+    → Passing t (length s) m → Each P (contents s (usedOf t) .profiles)
+unfolding sizeOf
+all-say s Q P one t m y u p =
+    let v = usedOf t in
+    let a = agrees t (length s) m y p in
+    owns-say s Q P one (ownedOf v) (views-own s v (p .views)) (p .short) (omega (arith, p .image))
+    (owned-fits Q (v .profiles) (v .taps) (v .names) (v .extras) (holds-take EntryFits (t .«profiles_used») (t .profiles) (y .profiles)) u
+    (holds-take TapFits (t .«taps_used») (t .taps) (y .taps)) (holds-take ExtraFits (t .«extras_used») (t .extras) (y .extras))
+    (omega (arith, a .taps, p .taps)) (omega (arith, a .names, p .names)) (omega (arith, a .extras, p .extras)))
+
+-- how many profiles they say, and what the type id is
+record Begun (s : List ℕ) (t : Tables) : Type 0 where
+  typeId : length (shown s (t .«type_id»)) < 256 ^ 4
+  multiple : length (shown s (t .«type_id»)) % 4 ≡ 0
+  octets : Octets (shown s (t .«type_id»))
+  count : length (contents s (usedOf t) .profiles) < 256 ^ 4
+
+begun : (s : List ℕ) → Octets s → (t : Tables) (m : ℕ) → Typed t → Passing t (length s) m → Begun s t
+unfolding viewsCheck
+begun s o t m y p =
     let v = usedOf t in
     let a = agrees t (length s) m y p in
     let (n, k, x) = under s o (p .source) 0 (t .«type_id») (passes _ _ (p .views) .0) in
-    let fits = owned-fits (v .profiles) (v .taps) (v .names) (v .extras) (holds-take EntryFits (t .«profiles_used») (t .profiles) (y .profiles)) u
-    (holds-take TapFits (t .«taps_used») (t .taps) (y .taps)) (holds-take ExtraFits (t .«extras_used») (t .extras) (y .extras))
-    (omega (arith, a .taps, p .taps)) (omega (arith, a .names, p .names)) (omega (arith, a .extras, p .extras)) in
     record {
       typeId = omega arith;
       multiple = ap (λ (z : ℕ). z % 4) n ∙ p .typeId;
       octets = x;
       count = omega (arith, length-map (profileOf s) (ownedOf v), length-owned (v .profiles) (v .taps) (v .names) (v .extras), a .profiles, p .profiles);
-      profiles = owns-good s o (p .source) (ownedOf v) (views-own s v (p .views)) (p .short) (omega (arith, p .image)) fits;
     }
+
+-- what accepted tables say is well-formed
+pub formed : (s : List ℕ) → Octets s → (t : Tables) (m : ℕ) → Typed t → Each Unknown (usedOf t .profiles) → Passing t (length s) m → WellFormed (contents s (usedOf t))
+formed s o t m y u p =
+    let b = begun s o t m y p in
+    record {
+      typeId = b .typeId;
+      multiple = b .multiple;
+      octets = b .octets;
+      count = b .count;
+      profiles = all-say s UnknownBody GoodProfile (body-good s o (p .source)) t m y u p;
+    }
+
+every-unit : {A : Type 0} (l : List A) → Each (λ x. Unit {0}) l
+every-unit [] = tt
+every-unit (x ∷ l) = (tt, every-unit l)
+
+-- the octets of an accepted image are octets
+pub sent-octets : (s : List ℕ) → Octets s → (t : Tables) (m : ℕ) → Typed t → Passing t (length s) m → Octets (layoutOf (contents s (usedOf t)))
+sent-octets s o t m y p =
+    let b = begun s o t m y p in
+    sendable-octets (contents s (usedOf t)) (b .typeId) (b .octets) (b .count)
+    (all-say s (λ b. Unit {0}) Sendable (body-sent s o (p .source)) t m y (every-unit (usedOf t .profiles)) p)

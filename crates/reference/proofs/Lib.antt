@@ -1,7 +1,7 @@
 pub mod Laws
+pub mod Steps
 pub mod Parts
 pub mod Accept
-pub mod Vectors
 pub mod Shown
 pub mod Octs
 pub mod Back
@@ -13,8 +13,13 @@ pub mod Formed
 pub mod Saying
 pub mod Written
 pub mod Measured
-pub mod Pinned
+pub mod Orders
+pub mod Sample
 pub mod Shows
 pub mod Walk
-pub mod Demands
+pub mod Promised
 pub mod Good
+pub mod Places
+pub mod Asked
+pub mod Names
+pub mod Worked

@@ -17,9 +17,10 @@ use Rattle.reference.specs.declared.Tables.{Tables}
 use Rattle.reference.specs.Meaning.{Tap, Extra, Address, Name, Profile, biop, lite, opaque, Reference, Room, tapsOf, namesOf, extrasOf, total}
 use Rattle.reference.specs.Tables.{Used, owned, ownedOf, tapsIn, namesIn, extrasIn, shown, tapOf, extraOf, nameOf, locationOf, bodyOf, profileOf, contents, usedOf, tabled, tablesOf, ProfileSaid, biopSaid, liteSaid, opaqueSaid, Said, bodySaid, said}
 use Rattle.reference.specs.Writer.{counted}
+use Rattle.reference.specs.Promises.{Agrees}
 use Rattle.reference.proofs.Sizes.{length-map}
 use Rattle.reference.proofs.Fitting.{used-tabled, sums}
-use Rattle.reference.proofs.Formed.{Full, owned-full, length-owned, Agrees, Passing}
+use Rattle.reference.proofs.Formed.{Full, owned-full, length-owned, Passing}
 
 -- ---- the contents of a meaning
 

@@ -1,5 +1,6 @@
--- The reader as a function on lists, step for step as the code goes: a few steps, and the readers of each part put together from them.
--- Assumes nothing.
+-- What a reading answers, as a function on lists (document 01, "Refusals by number" and "Places"): a few steps, and the readers of each part put
+-- together from them, with the Rust's checks in their order. 6 comes first; in the whole-slice reading leftover octets come last; then 7.
+-- Inside profile data the figures count from the start of that data. Assumes nothing.
 use Prim.Native.Nat.{ℕ, zero, suc, _+_, _-_, _%_}
 use mathlib.Core.Bool.{Bool, true, false}
 use mathlib.Core.List.{List, [], _∷_}
@@ -28,6 +29,11 @@ refusal n p a b = record { number = n; place = p; first = a; second = b }
 abbrev pub followed : {A B : Type 0} → Answer B → (B → ℕ → Answer A) → Answer A
 followed (ok b next) f = f b next
 followed (refused x) f = refused x
+
+-- the answer with its value told otherwise, as an entry of a table
+abbrev pub seen : {A B : Type 0} → (A → B) → Answer A → Answer B
+seen f (ok a next) = ok (f a) next
+seen f (refused x) = refused x
 
 module _ {A : Type 0} where
   -- the answer, and nothing more is read
@@ -71,11 +77,6 @@ module _ {A : Type 0} where
   unfoldable pub many : ℕ → Reader A → Reader (List A)
   many zero r d pos end = ok [] pos
   many (suc n) r d pos end = followed (r d pos end) (λ a next. followed (many n r d next end) (λ l last. ok (a ∷ l) last))
-
-  -- n of them, each put into a state where it stands: what a loop does
-  unfoldable pub into : {S : Type 0} → ℕ → Reader A → (ℕ → A → S → S) → S → Reader S
-  into zero r put s d pos end = ok s pos
-  into (suc n) r put s d pos end = followed (r d pos end) (λ a next. into n r put (put pos a s) d next end)
 
   -- one after the other
   unfoldable pub after : {B : Type 0} → Reader B → (B → Reader A) → Reader A

@@ -16,9 +16,10 @@ use Rattle.reference.specs.Layout.{Leads}
 use Rattle.reference.specs.Reader.{Answer, ok, refused, readLeading, readWhole}
 use Rattle.reference.specs.Tables.{tablesOf, tabled, noTables}
 use Rattle.reference.specs.Writer.{answered}
+use Rattle.reference.specs.Promises.{ShowsFields, GivesBack}
 use Rattle.reference.proofs.Accept.{accepted, only-accepted, whole, unique}
-use Rattle.reference.proofs.Shows.{ShowsFields, fields-shown}
-use Rattle.reference.proofs.Written.{GivesBack, part-given-back}
+use Rattle.reference.proofs.Shows.{fields-shown}
+use Rattle.reference.proofs.Written.{part-given-back}
 
 -- ---- from a declared answer to the definition's
 

@@ -1,0 +1,174 @@
+-- What a step of a reader answers, one equation for each case of the code. Assumes nothing.
+use Prim.Native.Nat.{ℕ, _+_, _-_, _<_, _≤_}
+use mathlib.Core.Path.{_≡_, refl, sym, ap, _∙_}
+use mathlib.Core.Bool.{Bool, true, false, not}
+use mathlib.Core.List.{List}
+use mathlib.Core.Logic.{_≢_}
+use native.Mathlib.Nat.{add-assoc}
+use native.Mathlib.Omega.{arith}
+use lib.Dec.{T, ltb, lt→ltb, not-T, eqb, eqb→eq, eqb-refl}
+use Rattle.octets.specs.Octets.{be, part}
+use Rattle.reference.specs.declared.Refusal.{Refusal}
+use Rattle.reference.specs.Reader.{Answer, ok, refused, refusal, Reader, pick, followed, seen, need, number, run, done, check, choose, within, inside, ending, after, component}
+use Rattle.reference.proofs.Laws.{guard-pass, pass-pass, not-ltb}
+
+module _ {A : Type 0} (d : List ℕ) (pos end : ℕ) where
+  pub need-cut : (k place : ℕ) (r : Reader A) → end < pos + k → need k place r d pos end ≡ refused (refusal 1 place (pos + k) end)
+  unfolding need
+  need-cut k place r h = pass-pass (ltb end (pos + k)) (refused (refusal 1 place (pos + k) end)) (r d pos end) (lt→ltb end (pos + k) h)
+
+  pub need-pass : (k place : ℕ) (r : Reader A) → pos + k ≤ end → need k place r d pos end ≡ r d pos end
+  unfolding need
+  need-pass k place r h = guard-pass (ltb end (pos + k)) (refused (refusal 1 place (pos + k) end)) (r d pos end) (not-ltb end (pos + k) h)
+
+  pub run-cut : (n : ℕ) (f : List ℕ → Reader A) → end - pos < n → run n f d pos end ≡ refused (refusal 2 0 n (end - pos))
+  unfolding run
+  run-cut n f h = pass-pass (ltb (end - pos) n) (refused (refusal 2 0 n (end - pos))) (f (part d pos n) d (pos + n) end) (lt→ltb (end - pos) n h)
+
+  pub run-pass : (n : ℕ) (f : List ℕ → Reader A) → n ≤ end - pos → run n f d pos end ≡ f (part d pos n) d (pos + n) end
+  unfolding run
+  run-pass n f h = guard-pass (ltb (end - pos) n) (refused (refusal 2 0 n (end - pos))) (f (part d pos n) d (pos + n) end) (not-ltb (end - pos) n h)
+
+module _ {A : Type 0} (d : List ℕ) (pos end : ℕ) where
+  pub check-pass : (b : Bool) (x : Refusal) (r : Reader A) → T b → check b x r d pos end ≡ r d pos end
+  unfolding check
+  check-pass b x r t = pass-pass b (r d pos end) (refused x) t
+
+  pub check-not : (b : Bool) (x : Refusal) (r : Reader A) → T (not b) → check b x r d pos end ≡ refused x
+  unfolding check
+  check-not b x r t = guard-pass b (r d pos end) (refused x) t
+
+  pub within-cut : (n : ℕ) (r : Reader A) → end - pos < n → within n r d pos end ≡ refused (refusal 2 0 n (end - pos))
+  unfolding within
+  within-cut n r h = pass-pass (ltb (end - pos) n) (refused (refusal 2 0 n (end - pos))) (r d pos (pos + n)) (lt→ltb (end - pos) n h)
+
+  pub within-pass : (n : ℕ) (r : Reader A) → n ≤ end - pos → within n r d pos end ≡ r d pos (pos + n)
+  unfolding within
+  within-pass n r h = guard-pass (ltb (end - pos) n) (refused (refusal 2 0 n (end - pos))) (r d pos (pos + n)) (not-ltb (end - pos) n h)
+
+  pub ending-no : (place : ℕ) (r : Reader A) {x : Refusal} → r d pos end ≡ refused x → ending place r d pos end ≡ refused x
+  unfolding ending
+  ending-no place r e = rw (e, ending)
+
+  pub ending-left : (place : ℕ) (r : Reader A) {a : A} {next : ℕ} → r d pos end ≡ ok a next → next ≢ end → ending place r d pos end ≡ refused (refusal 1 place (end - next) 0)
+  unfolding ending
+  ending-left place r {a} {next} e h =
+      rw (e, ending) (guard-pass (eqb next end) (ok a next) (refused (refusal 1 place (end - next) 0)) (not-T (eqb next end) (λ t. h (eqb→eq next end t))))
+
+  pub ending-ok : (place : ℕ) (r : Reader A) {a : A} → r d pos end ≡ ok a end → ending place r d pos end ≡ ok a end
+  unfolding ending
+  ending-ok place r {a} e = rw (e, ending) (pass-pass (eqb end end) (ok a end) (refused (refusal 1 place (end - end) 0)) (eqb-refl end))
+
+  pub after-no : {B : Type 0} (r : Reader B) (f : B → Reader A) {x : Refusal} → r d pos end ≡ refused x → after r f d pos end ≡ refused x
+  unfolding after
+  after-no r f e = rw (e, after)
+
+  pub after-ok : {B : Type 0} (r : Reader B) (f : B → Reader A) {b : B} {next : ℕ} → r d pos end ≡ ok b next → after r f d pos end ≡ f b d next end
+  unfolding after
+  after-ok r f e = rw (e, after)
+
+-- data that is a list of its own, and one of two
+
+module _ {A : Type 0} (d : List ℕ) (pos end : ℕ) where
+  pub inside-cut : (n : ℕ) (r : Reader A) → end - pos < n → inside n r d pos end ≡ refused (refusal 2 0 n (end - pos))
+  unfolding inside
+  inside-cut n r h = pass-pass (ltb (end - pos) n) (refused (refusal 2 0 n (end - pos))) _ (lt→ltb (end - pos) n h)
+
+  pub inside-no : (n : ℕ) (r : Reader A) → n ≤ end - pos → {x : Refusal} → r (part d pos n) 0 n ≡ refused x → inside n r d pos end ≡ refused x
+  unfolding inside
+  inside-no n r h e =
+      guard-pass (ltb (end - pos) n) (refused (refusal 2 0 n (end - pos))) _ (not-ltb (end - pos) n h)
+      ∙ ap (λ (y : Answer A). followed y (λ a next. ok a (pos + n))) e
+
+  pub inside-ok : (n : ℕ) (r : Reader A) → n ≤ end - pos → {a : A} {next : ℕ} → r (part d pos n) 0 n ≡ ok a next → inside n r d pos end ≡ ok a (pos + n)
+  unfolding inside
+  inside-ok n r h e =
+      guard-pass (ltb (end - pos) n) (refused (refusal 2 0 n (end - pos))) _ (not-ltb (end - pos) n h)
+      ∙ ap (λ (y : Answer A). followed y (λ a next. ok a (pos + n))) e
+
+  pub choose-first : (b : Bool) (r s : Reader A) → T b → choose b r s d pos end ≡ r d pos end
+  unfolding choose
+  choose-first b r s t = pass-pass b (r d pos end) (s d pos end) t
+
+  pub choose-second : (b : Bool) (r s : Reader A) → T (not b) → choose b r s d pos end ≡ s d pos end
+  unfolding choose
+  choose-second b r s t = guard-pass b (r d pos end) (s d pos end) t
+
+-- a component, by the cases of its code
+
+module _ {A : Type 0} (w tag header wrong left : ℕ) (r : Reader A) (d : List ℕ) (pos end : ℕ) where
+  pub component-cut : end < pos + (4 + w) → component w tag header wrong left r d pos end ≡ refused (refusal 1 header (pos + (4 + w)) end)
+  unfolding component
+  component-cut h = need-cut d pos end (4 + w) header _ h
+
+  module _ (room : pos + (4 + w) ≤ end) where
+    pub component-wrong : be (part d pos 4) ≢ tag → component w tag header wrong left r d pos end ≡ refused (refusal 3 wrong 0 0)
+    unfolding component number
+    component-wrong h = rw need-pass (check-not d (pos + 4) end (eqb (be (part d pos 4)) tag) (refusal 3 wrong 0 0) _ (not-T (eqb (be (part d pos 4)) tag) (λ t. h (eqb→eq (be (part d pos 4)) tag t))))
+
+    module _ (right : be (part d pos 4) ≡ tag) where
+      core : component w tag header wrong left r d pos end ≡ after (within (be (part d (pos + 4) w)) (ending left r)) (λ a. done a) d (pos + (4 + w)) end
+      unfolding component number
+      core = rw need-pass (check-pass d (pos + 4) end (eqb (be (part d pos 4)) tag) (refusal 3 wrong 0 0) _ (rw right (eqb-refl tag)) ∙ ap (λ (x : ℕ). after (within (be (part d (pos + 4) w)) (ending left r)) (λ a. done a) d x end) (add-assoc pos 4 w))
+
+      pub component-over : end - (pos + (4 + w)) < be (part d (pos + 4) w)
+          → component w tag header wrong left r d pos end ≡ refused (refusal 2 0 (be (part d (pos + 4) w)) (end - (pos + (4 + w))))
+      component-over h = core ∙ after-no d (pos + (4 + w)) end _ _ (within-cut d (pos + (4 + w)) end (be (part d (pos + 4) w)) _ h)
+
+      module _ (fits : be (part d (pos + 4) w) ≤ end - (pos + (4 + w))) where
+        pub component-no : {x : Refusal} → r d (pos + (4 + w)) (pos + (4 + w) + be (part d (pos + 4) w)) ≡ refused x → component w tag header wrong left r d pos end ≡ refused x
+        component-no e = core ∙ after-no d (pos + (4 + w)) end _ _ (within-pass d (pos + (4 + w)) end (be (part d (pos + 4) w)) _ fits ∙ ending-no d (pos + (4 + w)) _ left r e)
+
+        pub component-left : {a : A} {next : ℕ} → r d (pos + (4 + w)) (pos + (4 + w) + be (part d (pos + 4) w)) ≡ ok a next → next ≢ pos + (4 + w) + be (part d (pos + 4) w)
+            → component w tag header wrong left r d pos end ≡ refused (refusal 1 left (pos + (4 + w) + be (part d (pos + 4) w) - next) 0)
+        component-left e h =
+            core ∙ after-no d (pos + (4 + w)) end _ _ (within-pass d (pos + (4 + w)) end (be (part d (pos + 4) w)) _ fits ∙ ending-left d (pos + (4 + w)) _ left r e h)
+
+        pub component-ok : {a : A} → r d (pos + (4 + w)) (pos + (4 + w) + be (part d (pos + 4) w)) ≡ ok a (pos + (4 + w) + be (part d (pos + 4) w))
+            → component w tag header wrong left r d pos end ≡ ok a (pos + (4 + w) + be (part d (pos + 4) w))
+        unfolding done
+        component-ok e = core ∙ after-ok d (pos + (4 + w)) end _ _ (within-pass d (pos + (4 + w)) end (be (part d (pos + 4) w)) _ fits ∙ ending-ok d (pos + (4 + w)) _ left r e)
+
+-- ---- what an answer tells
+
+picked-eq : {A : Type 0} (b : Bool) (a : A) (n : ℕ) (x : Refusal) {c : A} {m : ℕ} → pick b (ok a n) (refused x) ≡ ok c m → (T b) × (n ≡ m)
+picked-eq true a n x e = (tt, cc)
+picked-eq false a n x e = let z : _≡_ {A = ℕ} 0 1 = cc in absurd (omega arith)
+
+-- what must reach the end has reached it
+pub ending-at : {A : Type 0} (place : ℕ) (r : Reader A) (d : List ℕ) (pos end : ℕ) {a : A} {n : ℕ} → ending place r d pos end ≡ ok a n → n ≡ end
+unfolding ending
+ending-at {A} place r d pos end {a} {n} e = go (r d pos end) e
+  where
+    go : (x : Answer A) → followed x (λ a next. pick (eqb next end) (ok a next) (refused (refusal 1 place (end - next) 0))) ≡ ok a n → n ≡ end
+    go (ok b m) q = let p = picked-eq (eqb m end) b m (refusal 1 place (end - m) 0) q in sym (p .1) ∙ eqb→eq m end (p .0)
+    go (refused x) q = let z : _≡_ {A = ℕ} 0 1 = cc in absurd (omega arith)
+
+pub followed-followed : {A B C : Type 0} (x : Answer A) (f : A → ℕ → Answer B) (g : B → ℕ → Answer C)
+    → followed (followed x f) g ≡ followed x (λ a n. followed (f a n) g)
+followed-followed (ok a n) f g = refl
+followed-followed (refused y) f g = refl
+
+pub followed-same : {A : Type 0} (x : Answer A) → followed x (λ a n. ok a n) ≡ x
+followed-same (ok a n) = refl
+followed-same (refused y) = refl
+
+-- what must reach the end may be made into something else before or after that is tested
+swap-picked : {A B : Type 0} (h : A → B) (b : Bool) (a : A) (n : ℕ) (y : Refusal) → pick b (ok (h a) n) (refused y) ≡ followed (pick b (ok a n) (refused y)) (λ a n. ok (h a) n)
+swap-picked h true a n y = refl
+swap-picked h false a n y = refl
+
+pub swap : {A B : Type 0} (h : A → B) (place end : ℕ) (x : Answer A)
+    → followed (followed x (λ a n. ok (h a) n)) (λ b n. pick (eqb n end) (ok b n) (refused (refusal 1 place (end - n) 0)))
+    ≡ followed (followed x (λ a n. pick (eqb n end) (ok a n) (refused (refusal 1 place (end - n) 0)))) (λ a n. ok (h a) n)
+swap h place end (ok a n) = swap-picked h (eqb n end) a n (refusal 1 place (end - n) 0)
+swap h place end (refused y) = refl
+
+-- what code got, the reader got: its value, and the entry made of it
+pub seen-ok : {A B : Type 0} (f : A → B) (x : Answer A) {b : B} {n : ℕ} → seen f x ≡ ok b n → (a : A) × (x ≡ ok a n) × (b ≡ f a)
+seen-ok f (ok a m) {b} {n} e = let q : m ≡ n = cc in (a, ap (λ (k : ℕ). ok a k) q, cc)
+seen-ok f (refused y) e = let z : _≡_ {A = ℕ} 0 1 = cc in absurd (omega arith)
+
+pub seen-no : {A B : Type 0} (f : A → B) (x : Answer A) {y : Refusal} → seen f x ≡ refused y → x ≡ refused y
+seen-no f (ok a m) e = let z : _≡_ {A = ℕ} 0 1 = cc in absurd (omega arith)
+seen-no f (refused z) {y} e = let q : z ≡ y = cc in ap (λ (k : Refusal). refused k) q

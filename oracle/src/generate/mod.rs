@@ -1,0 +1,108 @@
+//! Makes requests: a seed and an index determine each, and the ops that were asked for are mixed by weight.
+
+mod bad;
+mod octets;
+mod plan;
+mod random;
+mod short;
+mod sweep;
+mod tables;
+
+use crate::listing::put_record;
+use crate::request::Request;
+use random::Random;
+use sweep::Sweep;
+
+/// The word that asks for the sweep among the ops.
+const SWEEP: &str = "sweep";
+
+/// What can be asked for, and its weight in the mix: ops 1 to 10, and requests of the sweep.
+const WEIGHTS: [(&str, usize); 11] =
+    [("1", 22), ("2", 22), ("3", 9), ("4", 14), ("5", 3), ("6", 3), ("7", 8), ("8", 8), ("9", 4), ("10", 3), (SWEEP, 4)];
+
+pub struct Generator {
+    seed: u64,
+    asked: Vec<&'static str>,
+    sweep: Sweep,
+}
+
+impl Generator {
+    /// A generator of the ops that a list with commas names, or of all where there is none.
+    pub fn new(seed: u64, ops: Option<&str>) -> Result<Generator, String> {
+        let weight = |op: &str| {
+            let found = WEIGHTS.iter().find(|(name, _)| *name == op);
+            found.copied().ok_or(format!("no such op: {op}"))
+        };
+        let chosen = match ops {
+            None => WEIGHTS.to_vec(),
+            Some(list) => list.split(',').map(weight).collect::<Result<Vec<_>, String>>()?,
+        };
+        let asked = chosen.into_iter().flat_map(|(name, weight)| vec![name; weight]).collect();
+        Ok(Generator { seed, asked, sweep: Sweep::new() })
+    }
+
+    /// How many requests the sweep has.
+    pub fn sweep_size(&self) -> usize {
+        self.sweep.size()
+    }
+
+    /// Where nothing but the sweep is asked for its requests come in order, else at random.
+    fn swept(&self, random: &mut Random, index: u64) -> Request {
+        let alone = self.asked.iter().all(|op| *op == SWEEP);
+        self.sweep.member(if alone { index as usize } else { random.below(self.sweep.size()) })
+    }
+
+    pub fn request(&self, index: u64) -> Request {
+        let mut random = Random::new(self.seed, index);
+        let random = &mut random;
+        match random.pick(&self.asked) {
+            "1" => Request::Read { whole: false, source: octets::reference(random) },
+            "2" => Request::Read { whole: true, source: octets::reference(random) },
+            "3" => tables::measure(random),
+            "4" => tables::write(random),
+            "5" => short::kind(random),
+            "6" => short::tap(random),
+            "7" => short::read_name(random),
+            "8" => short::write_name(random),
+            "9" => tables::first(random),
+            "10" => short::address(random),
+            _ => self.swept(random, index),
+        }
+    }
+
+    /// Octets of some requests and a bad one. Unless that one is cut, others follow that must not be answered.
+    pub fn bad_run(&self, index: u64) -> Vec<u8> {
+        let mut random = Random::new(!self.seed, index);
+        let mut run = Vec::new();
+        let next = 4 * index;
+        (next..next + index % 3).for_each(|before| self.request(before).put(&mut run));
+        if random.one_in(3) {
+            let start = run.len();
+            self.request(next + 3).put(&mut run);
+            run.truncate(random.between(start + 1, run.len() - 1));
+        } else {
+            bad::put(&mut random, &mut run);
+            self.request(next + 3).put(&mut run);
+        }
+        run
+    }
+
+    /// A cache to be listed: records, and now and then a wrong mark or a cut.
+    pub fn cache(&self, index: u64) -> Vec<u8> {
+        let mut random = Random::new(self.seed, index);
+        let mut cache = Vec::new();
+        for _ in 0..random.between(0, 12) {
+            let mut reference = octets::reference(&mut random);
+            reference.truncate(0xFFFF);
+            put_record(&mut cache, &reference);
+        }
+        if !cache.is_empty() && random.one_in(3) {
+            cache.truncate(random.between(0, cache.len()));
+        }
+        if !cache.is_empty() && random.one_in(6) {
+            let at = random.below(cache.len());
+            cache[at] ^= 1;
+        }
+        cache
+    }
+}

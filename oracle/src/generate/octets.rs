@@ -1,0 +1,325 @@
+//! References as octets, well formed or damaged: lies in length and count fields, cuts, slack, octets inserted and removed.
+
+use super::plan::{crowded, long, small, Part, Plan, TAG_BIOP, TAG_LITE_OPTIONS};
+use super::random::Random;
+
+/// What is closed by a length field, and can be cut short or padded with every outer length still right.
+#[derive(Clone, Copy, PartialEq, Eq)]
+enum Container {
+    Location,
+    Binder,
+    Biop,
+    Service,
+    LiteOptions,
+}
+
+#[derive(Clone, Copy)]
+struct Damage {
+    container: Container,
+    cut: bool,
+    octets: usize,
+}
+
+struct Field {
+    at: usize,
+    width: usize,
+}
+
+/// A reference in the making, and where its length and count fields stand.
+struct Draft<'a> {
+    random: &'a mut Random,
+    octets: Vec<u8>,
+    fields: Vec<Field>,
+    damage: Option<Damage>,
+    dvb: bool,
+}
+
+impl Draft<'_> {
+    fn constant(&mut self, width: usize, value: u64) {
+        self.octets.extend_from_slice(&value.to_be_bytes()[8 - width..]);
+    }
+
+    fn field(&mut self, width: usize, value: usize) {
+        self.fields.push(Field { at: self.octets.len(), width });
+        self.constant(width, value as u64);
+    }
+
+    fn filler(&mut self, count: usize) {
+        let octets = self.random.octets(count);
+        self.octets.extend_from_slice(&octets);
+    }
+
+    /// Where the contents of a container begin, behind a length that `close` sets.
+    fn open(&mut self, width: usize) -> usize {
+        self.field(width, 0);
+        self.octets.len()
+    }
+
+    fn close(&mut self, container: Container, start: usize, width: usize) {
+        if self.damage.is_some_and(|damage| damage.container == container) {
+            let damage = self.damage.take().expect("there is damage to do");
+            self.hurt(damage, start);
+        }
+        let length = (self.octets.len() - start) as u64;
+        self.octets[start - width..start].copy_from_slice(&length.to_be_bytes()[8 - width..]);
+    }
+
+    fn hurt(&mut self, damage: Damage, start: usize) {
+        if damage.cut {
+            let left = self.octets.len() - start;
+            self.octets.truncate(start + left.saturating_sub(damage.octets));
+            let end = self.octets.len();
+            self.fields.retain(|field| field.at + field.width <= end);
+        } else {
+            self.filler(damage.octets);
+        }
+    }
+
+    fn extras(&mut self, extras: &[usize]) {
+        for length in extras {
+            let tag = if self.random.one_in(3) { 0x4953_4F40 } else { self.random.number() };
+            self.constant(4, tag as u64);
+            self.field(1, *length);
+            self.filler(*length);
+        }
+    }
+
+    fn location(&mut self, key: usize) {
+        self.constant(4, 0x4953_4F50);
+        let start = self.open(1);
+        self.filler(6);
+        self.constant(2, 0x0100);
+        self.field(1, key);
+        self.filler(key);
+        self.close(Container::Location, start, 1);
+    }
+
+    fn binder(&mut self, taps: &[usize]) {
+        self.constant(4, 0x4953_4F40);
+        let start = self.open(1);
+        self.field(1, taps.len());
+        for selector in taps {
+            self.filler(2);
+            let use_ = self.random.pick(&[0x0016, 0x0017, 0x0001]);
+            self.constant(2, use_);
+            self.filler(2);
+            self.field(1, *selector);
+            self.filler(*selector);
+        }
+        self.close(Container::Binder, start, 1);
+    }
+
+    fn address(&mut self) {
+        if !self.dvb {
+            return self.filler(20);
+        }
+        self.constant(2, 0);
+        self.filler(4);
+        self.constant(1, 1);
+        self.filler(9);
+        self.constant(4, 0xFFFF_FFFF);
+    }
+
+    fn service(&mut self, names: &[(usize, usize)], context: usize) {
+        self.constant(4, 0x4953_4F46);
+        let start = self.open(4);
+        self.field(1, 20);
+        self.address();
+        self.field(4, names.len());
+        for (id, kind) in names {
+            self.field(4, *id);
+            self.filler(*id);
+            self.field(4, *kind);
+            self.filler(*kind);
+        }
+        self.field(4, context);
+        self.filler(context);
+        self.close(Container::Service, start, 4);
+    }
+
+    fn part(&mut self, part: &Part) {
+        match part {
+            Part::Opaque { tag, data } => {
+                self.constant(4, *tag as u64);
+                self.field(4, *data);
+                self.filler(*data);
+            }
+            Part::Biop { key, taps, extras } => {
+                self.constant(4, TAG_BIOP as u64);
+                let start = self.open(4);
+                self.constant(1, 0);
+                self.field(1, 2 + extras.len());
+                self.location(*key);
+                self.binder(taps);
+                self.extras(extras);
+                self.close(Container::Biop, start, 4);
+            }
+            Part::LiteOptions { names, context, extras } => {
+                self.constant(4, TAG_LITE_OPTIONS as u64);
+                let start = self.open(4);
+                self.constant(1, 0);
+                self.field(1, 1 + extras.len());
+                self.service(names, *context);
+                self.extras(extras);
+                self.close(Container::LiteOptions, start, 4);
+            }
+        }
+    }
+
+    fn type_id(&mut self, length: usize) {
+        self.field(4, length);
+        if length == 4 {
+            let kind = self.random.pick(&[b"dir\0", b"fil\0", b"str\0", b"srg\0", b"ste\0", b"xyz\0"]);
+            self.octets.extend_from_slice(kind);
+        } else {
+            self.filler(length);
+        }
+    }
+
+    fn plan(&mut self, plan: &Plan) {
+        self.type_id(plan.type_id);
+        self.field(4, plan.parts.len());
+        plan.parts.iter().for_each(|part| self.part(part));
+    }
+
+    /// Another number in one of the length and count fields.
+    fn lie(&mut self) {
+        if self.fields.is_empty() {
+            return;
+        }
+        let Field { at, width } = self.fields[self.random.below(self.fields.len())];
+        let old = self.octets[at..at + width].iter().fold(0, |sum, octet| sum << 8 | *octet as u64);
+        let new = self.random.lie(old).to_be_bytes();
+        self.octets[at..at + width].copy_from_slice(&new[8 - width..]);
+    }
+
+    /// A cut somewhere, or just before or inside a field.
+    fn truncate(&mut self) {
+        let end = match self.fields.last() {
+            Some(_) if self.random.one_in(2) => {
+                let field = &self.fields[self.random.below(self.fields.len())];
+                field.at + self.random.between(0, field.width)
+            }
+            _ => self.random.between(0, self.octets.len()),
+        };
+        self.octets.truncate(end);
+        self.fields.retain(|field| field.at + field.width <= end);
+    }
+
+    fn insert(&mut self) {
+        let at = self.random.between(0, self.octets.len());
+        let octet = self.random.number() as u8;
+        self.octets.insert(at, octet);
+        self.fields.clear();
+    }
+
+    fn remove(&mut self) {
+        if !self.octets.is_empty() {
+            let at = self.random.below(self.octets.len());
+            self.octets.remove(at);
+            self.fields.clear();
+        }
+    }
+
+    fn change(&mut self) {
+        if !self.octets.is_empty() {
+            let at = self.random.below(self.octets.len());
+            self.octets[at] ^= self.random.pick(&[0x01, 0x02, 0x10, 0x80, 0xFF]);
+        }
+    }
+
+    fn mutate(&mut self) {
+        match self.random.below(8) {
+            0..=2 => self.lie(),
+            3 | 4 => self.truncate(),
+            5 => self.insert(),
+            6 => self.remove(),
+            _ => self.change(),
+        }
+    }
+
+    fn append(&mut self) {
+        let count = self.random.pick(&[1, 1, 2, 4, 9]);
+        self.filler(count);
+    }
+}
+
+fn damage(random: &mut Random) -> Damage {
+    use Container::*;
+    Damage {
+        container: random.pick(&[Location, Binder, Biop, Service, LiteOptions]),
+        cut: random.one_in(2),
+        octets: if random.one_in(2) { random.between(1, 4) } else { random.between(1, 60) },
+    }
+}
+
+fn drafted(random: &mut Random, plan: &Plan, damage: Option<Damage>) -> Vec<u8> {
+    let dvb = random.one_in(2);
+    let mutations = if damage.is_some() { random.pick(&[0, 0, 0, 1]) } else { random.pick(&[0, 0, 1, 1, 1, 1, 2, 3]) };
+    let appended = random.one_in(8);
+    let mut draft = Draft { random, octets: Vec::new(), fields: Vec::new(), damage, dvb };
+    draft.plan(plan);
+    (0..mutations).for_each(|_| draft.mutate());
+    if appended {
+        draft.append();
+    }
+    draft.octets
+}
+
+/// A well-formed reference of a plan.
+pub fn well_formed(random: &mut Random, plan: &Plan) -> Vec<u8> {
+    let mut draft = Draft { random, octets: Vec::new(), fields: Vec::new(), damage: None, dvb: true };
+    draft.plan(plan);
+    draft.octets
+}
+
+/// One whose opaque data fills it up to about 65,535 octets.
+fn huge(random: &mut Random) -> Vec<u8> {
+    let mut plan = small(random);
+    let short = well_formed(random, &plan).len() + 8;
+    let total = random.pick(&[65_534, 65_535, 65_536, 66_000, 70_000]);
+    plan.parts.push(Part::Opaque { tag: 7, data: total - short });
+    let damage = random.one_in(4).then(|| damage(random));
+    let mut octets = drafted(random, &plan, damage);
+    octets.truncate(70_000);
+    octets
+}
+
+/// A sequence of numbers that a reference might begin with.
+fn words(random: &mut Random) -> Vec<u8> {
+    let count = random.between(0, 10);
+    let mut octets = Vec::new();
+    for _ in 0..count {
+        let word = random.pick(&[0, 0, 1, 2, 4, 4, 8, 0xFF, 0x100, TAG_BIOP, TAG_LITE_OPTIONS, 0xFFFF_FFFF]);
+        octets.extend_from_slice(&word.to_be_bytes());
+    }
+    let rest = random.between(0, 3);
+    octets.extend(random.octets(rest));
+    octets
+}
+
+/// Octets to read a reference from.
+pub fn reference(random: &mut Random) -> Vec<u8> {
+    match random.below(3000) {
+        0..=2 => huge(random),
+        3..=120 => words(random),
+        121..=420 => {
+            let plan = crowded(random);
+            let damage = random.one_in(4).then(|| damage(random));
+            drafted(random, &plan, damage)
+        }
+        421..=540 => {
+            let plan = long(random);
+            drafted(random, &plan, None)
+        }
+        541..=1400 => {
+            let plan = small(random);
+            let damage = damage(random);
+            drafted(random, &plan, Some(damage))
+        }
+        _ => {
+            let plan = small(random);
+            drafted(random, &plan, None)
+        }
+    }
+}

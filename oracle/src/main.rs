@@ -1,0 +1,155 @@
+//! The oracle: answers requests by the Rust, makes requests from a seed, and compares a program's answers with its own.
+
+mod answers;
+mod cases;
+mod compare;
+mod coverage;
+mod generate;
+mod listing;
+mod readable;
+mod refusal;
+mod request;
+mod table;
+
+use coverage::Coverage;
+use generate::Generator;
+use std::error::Error;
+use std::io::{self, BufWriter, Read, Write};
+use std::process::ExitCode;
+
+const USAGE: &str = "usage: oracle answer | describe | encode | dirty | list        (from standard input)
+       oracle generate SEED COUNT [OPS] | coverage SEED COUNT | sweep-size
+       oracle compare PROGRAM SEED COUNT [OPS] | compare-bad PROGRAM SEED COUNT | compare-list PROGRAM SEED COUNT
+       oracle self-check [--mutate K] | case-count
+OPS is a list with commas of 1 to 10 and sweep.";
+
+/// Whether all was well.
+type Outcome = Result<bool, Box<dyn Error>>;
+
+fn output() -> BufWriter<io::StdoutLock<'static>> {
+    BufWriter::with_capacity(1 << 18, io::stdout().lock())
+}
+
+/// Each request of the input as a readable line.
+fn describe_all() -> Outcome {
+    let mut out = output();
+    let ended_well = answers::each_request(io::stdin().lock(), |request| writeln!(out, "{}", readable::describe(&request)))?;
+    if !ended_well {
+        writeln!(out, "bad request")?;
+    }
+    out.flush()?;
+    Ok(ended_well)
+}
+
+/// The octets of readable lines.
+fn encode_all() -> Outcome {
+    let mut octets = Vec::new();
+    for line in io::read_to_string(io::stdin())?.lines() {
+        readable::request(line).put(&mut octets);
+    }
+    io::stdout().write_all(&octets)?;
+    Ok(true)
+}
+
+/// For each writing that is refused with its output changed by the Rust: how many octets, the output, and the request.
+fn show_dirty() -> Outcome {
+    let mut out = output();
+    answers::each_request(io::stdin().lock(), |request| {
+        let answered = answers::answer(&request, &mut Vec::new());
+        if !answered.dirty.is_empty() {
+            let (output, asked) = (readable::hex(&answered.dirty), readable::describe(&request));
+            writeln!(out, "{} octets changed: {output}\n  {asked}", answered.changed())?;
+        }
+        Ok(())
+    })?;
+    out.flush()?;
+    Ok(true)
+}
+
+fn list() -> Outcome {
+    let mut cache = Vec::new();
+    io::stdin().read_to_end(&mut cache)?;
+    print!("{}", listing::list(&cache));
+    Ok(true)
+}
+
+fn generate(generator: &Generator, count: u64) -> Outcome {
+    let mut out = output();
+    for index in 0..count {
+        out.write_all(&compare::chunk(generator, index, index + 1))?;
+    }
+    out.flush()?;
+    Ok(true)
+}
+
+/// What so many requests meet; not well where something that must be met is missing.
+fn cover(generator: &Generator, count: u64) -> Outcome {
+    let mut coverage = Coverage::default();
+    let (mut octets, mut line) = (Vec::new(), Vec::new());
+    for index in 0..count {
+        octets.clear();
+        line.clear();
+        generator.request(index).put(&mut octets);
+        let Ok((request, _)) = request::take(&octets) else {
+            return Err(format!("request {index} is bad").into());
+        };
+        coverage.count(request.op(), &answers::answer(&request, &mut line));
+    }
+    print!("{}", coverage.report());
+    let faults = coverage.faults();
+    faults.iter().for_each(|fault| println!("{fault}"));
+    Ok(faults.is_empty())
+}
+
+fn self_check(mutate: Option<usize>) -> Outcome {
+    let failures = cases::failures(mutate);
+    failures.iter().for_each(|failure| println!("{failure}"));
+    println!("{} cases, {} failed", cases::count(), failures.len());
+    Ok(failures.is_empty())
+}
+
+fn run(arguments: &[&str]) -> Outcome {
+    let seeded =
+        |seed: &str, ops: Option<&str>| -> Result<Generator, Box<dyn Error>> { Ok(Generator::new(seed.parse()?, ops)?) };
+    match *arguments {
+        ["answer"] => {
+            answers::answer_all(io::stdin().lock(), output())?;
+            Ok(true)
+        }
+        ["describe"] => describe_all(),
+        ["encode"] => encode_all(),
+        ["dirty"] => show_dirty(),
+        ["list"] => list(),
+        ["generate", seed, count] => generate(&seeded(seed, None)?, count.parse()?),
+        ["generate", seed, count, ops] => generate(&seeded(seed, Some(ops))?, count.parse()?),
+        ["coverage", seed, count] => cover(&seeded(seed, None)?, count.parse()?),
+        ["sweep-size"] => {
+            println!("{}", seeded("0", None)?.sweep_size());
+            Ok(true)
+        }
+        ["compare", program, seed, count] => Ok(compare::compare(program, seeded(seed, None)?, count.parse()?)? == 0),
+        ["compare", program, seed, count, ops] => Ok(compare::compare(program, seeded(seed, Some(ops))?, count.parse()?)? == 0),
+        ["compare-bad", program, seed, count] => Ok(compare::compare_bad(program, seeded(seed, None)?, count.parse()?)? == 0),
+        ["compare-list", program, seed, count] => Ok(compare::compare_list(program, seeded(seed, None)?, count.parse()?)? == 0),
+        ["self-check"] => self_check(None),
+        ["self-check", "--mutate", case] => self_check(Some(case.parse()?)),
+        ["case-count"] => {
+            println!("{}", cases::count());
+            Ok(true)
+        }
+        _ => Err(USAGE.into()),
+    }
+}
+
+fn main() -> ExitCode {
+    let arguments: Vec<String> = std::env::args().skip(1).collect();
+    let arguments: Vec<&str> = arguments.iter().map(String::as_str).collect();
+    match run(&arguments) {
+        Ok(true) => ExitCode::SUCCESS,
+        Ok(false) => ExitCode::from(1),
+        Err(error) => {
+            eprintln!("{error}");
+            ExitCode::from(2)
+        }
+    }
+}
