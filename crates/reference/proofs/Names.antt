@@ -198,6 +198,22 @@ layout-octets m g =
     (octets-append (m .id) _ (g .idOctets)
     (octets-append (octets 1 (length (m .kind))) _ (octets-octets 1 _ (g .kind)) (octets-append (m .kind) [] (g .kindOctets) tt)))
 
+-- the image, with any octets behind it, is led by its name
+pub short-image-leads : (x : NameComponent) (s d : List ℕ) → Octets s → (n : ℕ) → shortWritten x s d ≡ Count n → (e : List ℕ) → LeadsShort (shortImage s x ++ e) (nameOf s x) n
+unfolding shortImage
+short-image-leads x s d o n w e =
+    let (p, q) = short-accepts x s d n w in
+    let l = layoutShort (nameOf s x) in
+    let sz : length l ≡ n = short-size s x (p .id) (p .kind) ∙ q .0 in
+    record { inside = omega (arith, length-append l e); part = take-at l e n sz; formed = short-good s o x (length d) p }
+
+-- and so is the output, whatever it held before
+pub short-output-leads : (x : NameComponent) (s d : List ℕ) → Octets s → (n : ℕ) → shortWritten x s d ≡ Count n → LeadsShort (shortLeaves x s d) (nameOf s x) n
+unfolding splice
+short-output-leads x s d o n w =
+    let (p, q) = short-accepts x s d n w in
+    subst (λ (y : List ℕ). LeadsShort y (nameOf s x) n) (sym (q .1)) (short-image-leads x s d o n w (drop (0 + length (shortImage s x)) d))
+
 -- What the writer accepts reads back with equal octets: the image, with any octets behind it up to 65,535 in all,
 pub short-reads-back : (x : NameComponent) (s d : List ℕ) → Octets s → (n : ℕ) → shortWritten x s d ≡ Count n
     → (e : List ℕ) → Octets e → n + length e ≤ 65535 → readShortName (shortImage s x ++ e) ≡ ok (nameOf s x) n
@@ -205,11 +221,10 @@ unfolding shortImage
 short-reads-back x s d o n w e oe small =
     let (p, q) = short-accepts x s d n w in
     let m = nameOf s x in
-    let g = short-good s o x (length d) p in
-    let sz : length (layoutShort m) ≡ n = short-size s x (p .id) (p .kind) ∙ q .0 in
-    let ne : length (layoutShort m ++ e) ≡ n + length e = length-append (layoutShort m) e ∙ ap (λ (k : ℕ). k + length e) sz in
-    short-accepted (layoutShort m ++ e) (octets-append (layoutShort m) e (layout-octets m g) oe) (omega arith) m n
-    (record { inside = omega arith; part = take-at (layoutShort m) e n sz; formed = g })
+    let l = layoutShort m in
+    let sz : length l ≡ n = short-size s x (p .id) (p .kind) ∙ q .0 in
+    let ne : length (l ++ e) ≡ n + length e = length-append l e ∙ ap (λ (k : ℕ). k + length e) sz in
+    short-accepted (l ++ e) (octets-append l e (layout-octets m (short-good s o x (length d) p)) oe) (omega arith) m n (short-image-leads x s d o n w e)
 
 -- and the output itself, whatever it held before.
 pub short-output-reads-back : (x : NameComponent) (s d : List ℕ) → Octets s → Octets d → length d ≤ 65535 → (n : ℕ) → shortWritten x s d ≡ Count n
