@@ -1,0 +1,5 @@
+pub mod Replaced
+pub mod Stored
+pub mod Filed
+pub mod Chunks
+pub mod Entries

@@ -1,0 +1,41 @@
+-- What stands in a lent table after a reading: the entries of some profiles, behind those that stood there, and the six numbers at the front.
+-- What stands behind the entries is kept. Assumes nothing.
+use Prim.Native.Nat.{ℕ, _+_}
+use mathlib.Core.List.{List, [], _∷_}
+use lib.ListN.{length}
+use Rattle.octets.specs.Octets.{splice}
+use Rattle.reference.specs.declared.Tap.{Tap}
+use Rattle.reference.specs.declared.NameComponent.{NameComponent}
+use Rattle.reference.specs.declared.LiteComponent.{LiteComponent}
+use Rattle.reference.specs.declared.TaggedProfile.{TaggedProfile}
+use Rattle.reference.specs.Meaning.{Profile, Reference, tapsOf, namesOf, extrasOf, total}
+use Rattle.reference.specs.Layout.{layoutProfile}
+use Rattle.reference.specs.Tables.{placed, gathered, bodyAt, tapsAt, namesAt, extrasAt, view}
+use Rattle.table.specs.declared.Counts.{Counts}
+use Rattle.table.specs.Region.{stored}
+use Rattle.table.specs.Flat.{profileRegion, tapRegion, nameRegion, extraRegion, frontNumbers}
+
+-- entries of all sorts, of which the first profile is profile i, stored in the order of the regions
+abbrev pub filed : List ℕ → ℕ → Counts → List TaggedProfile → List Tap → List NameComponent → List LiteComponent → List ℕ
+filed t i u ps ts ns es = stored extraRegion (stored nameRegion (stored tapRegion (stored profileRegion t i ps) (u .taps) ts) (u .names) ns) (u .extras) es
+
+-- the counts after a profile
+abbrev pub countsAfter : Counts → Profile → Counts
+countsAfter u p = record { taps = u .taps + tapsOf p; names = u .names + namesOf p; extras = u .extras + extrasOf p }
+
+-- the entries of a profile, and of profiles, whose layout stands at an offset
+abbrev pub profileFiled : ℕ → List ℕ → ℕ → Counts → Profile → List ℕ
+profileFiled at t i u p = filed t i u (bodyAt at p ∷ []) (tapsAt at p) (namesAt at p) (extrasAt at p)
+
+abbrev pub profilesFiled : ℕ → List ℕ → ℕ → Counts → List Profile → List ℕ
+profilesFiled at t i u l =
+    filed t i u (placed bodyAt layoutProfile at l) (gathered tapsAt layoutProfile at l) (gathered namesAt layoutProfile at l) (gathered extrasAt layoutProfile at l)
+
+abbrev pub noCounts : Counts
+noCounts = record { taps = 0; names = 0; extras = 0 }
+
+-- a reference, read into the table t: its entries, then the six numbers at the front
+abbrev pub referenceFiled : List ℕ → Reference → List ℕ
+referenceFiled t m =
+    splice (profilesFiled (length (m .typeId) + 8) t 0 noCounts (m .profiles)) 0
+    (frontNumbers (view 4 (m .typeId)) (length (m .profiles)) (total tapsOf (m .profiles)) (total namesOf (m .profiles)) (total extrasOf (m .profiles)))
