@@ -1,0 +1,5 @@
+pub mod Storing
+pub mod Whole
+pub mod Back
+pub mod Blank
+pub mod Accepted

@@ -1,0 +1,62 @@
+-- `by_value::put_taps` meets its contract. Entry by entry. Assumes nothing.
+use borrow.Author.Needs.{needs}
+use Prim.Native.Nat.{_-_}
+use mathlib.Core.Path.{_≡_}
+use native.Mathlib.Omega.{arith}
+use lib.ListN.{length}
+use Rattle.reference.specs.Tables.{noTap}
+use Rattle.table.specs.Flat.{tapRegion}
+use Rattle.by_value.proofs.Storing.{Storing, begin, turn, finish}
+use Rattle.by_value.proofs.put_taps.Statement.{statement}
+use Rattle.by_value.proofs.put_taps.Tie as tie
+
+abbrev Inv-loop : tie.InvT-loop
+Inv-loop out₀ all i₀ out i = (length all ≡ 36) × Storing tapRegion all out₀ out i
+
+abbrev μ-loop : tie.MeasureT-loop
+μ-loop out₀ all i₀ out i = 36 - i
+
+loop-holds : tie.Need-loop-holds Inv-loop μ-loop
+loop-holds c =
+    let wide : length (c .before .args .t1) ≡ 36 = c .before .good .0 .1 .0 .1 in
+    (wide, begin wide (omega arith))
+
+mul-t : tie.Need-mul-t Inv-loop μ-loop
+mul-t c = omega arith
+
+array-copy-out-t : tie.Need-array-copy-out-t Inv-loop μ-loop
+array-copy-out-t c = omega arith
+
+put-tap-requires : tie.Need-put-tap-requires Inv-loop μ-loop
+put-tap-requires c κs = search needs
+
+add-i : tie.Need-add-i Inv-loop μ-loop
+add-i c = omega arith
+
+loop-less : tie.Need-loop-less Inv-loop μ-loop
+loop-less c = omega arith
+
+loop-again : tie.Need-loop-again Inv-loop μ-loop
+loop-again c = let l = c .before .before .before .before .before .before .loop in (l .inv .0, turn (l .inv .1) noTap (omega arith) (c .before .before .put-tap .ensures))
+
+same-length : tie.Need-same-length Inv-loop μ-loop
+same-length c = c .before .loop .inv .1 .long
+
+returns : tie.Need-returns Inv-loop μ-loop
+returns c = finish (c .before .loop .inv .1) (omega arith)
+
+pub put-taps-spec : {M : Type 1} → statement M
+put-taps-spec =
+    tie.close
+    (tie.spec
+    Inv-loop
+    μ-loop
+    loop-holds
+    mul-t
+    array-copy-out-t
+    put-tap-requires
+    add-i
+    loop-less
+    loop-again
+    same-length
+    returns)
