@@ -1,0 +1,5 @@
+pub mod Fills
+pub mod Moves
+pub mod Fixed
+pub mod Extras
+pub mod Grows
