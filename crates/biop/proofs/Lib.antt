@@ -1,0 +1,6 @@
+pub mod Taps
+pub mod Location
+pub mod Header
+pub mod Beginning
+pub mod Rest
+pub mod Bounds

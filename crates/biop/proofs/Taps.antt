@@ -1,0 +1,33 @@
+-- What the reader of a tap answers, one equation for each case of the code. Assumes nothing.
+use Prim.Native.Nat.{ℕ, _+_, _-_, _<_, _≤_}
+use mathlib.Core.Path.{_≡_, _∙_}
+use mathlib.Core.List.{List}
+use native.Mathlib.Nat.{add-assoc}
+use native.Mathlib.Omega.{arith}
+use Rattle.octets.specs.Octets.{be, part}
+use Rattle.reference.specs.Reader.{ok, refused, refusal, number, done, readTap}
+use Rattle.reference.proofs.Steps.{need-cut, need-pass, run-cut, run-pass}
+use Rattle.components.proofs.Grows.{Grows, head-and-run}
+
+module _ (d : List ℕ) (pos end : ℕ) where
+  pub tap-cut : end < pos + 7 → readTap d pos end ≡ refused (refusal 1 11 (pos + 7) end)
+  unfolding readTap
+  tap-cut h = need-cut d pos end 7 11 _ h
+
+  pub tap-over : pos + 7 ≤ end → end - (pos + 7) < be (part d (pos + 6) 1) → readTap d pos end ≡ refused (refusal 2 0 (be (part d (pos + 6) 1)) (end - (pos + 7)))
+  unfolding readTap number
+  tap-over h o = rw need-pass (simp add-assoc (run-cut d (pos + 7) end (be (part d (pos + 6) 1)) _ o))
+
+  pub tap-read : pos + 7 ≤ end → be (part d (pos + 6) 1) ≤ end - (pos + 7)
+      → readTap d pos end
+      ≡ ok (record { id = be (part d pos 2); uses = be (part d (pos + 2) 2); association = be (part d (pos + 4) 2); selector = part d (pos + 7) (be (part d (pos + 6) 1)) })
+      (pos + 7 + be (part d (pos + 6) 1))
+  unfolding readTap number done
+  tap-read h o = rw need-pass (simp add-assoc (run-pass d (pos + 7) end (be (part d (pos + 6) 1)) _ o ∙ simp add-assoc))
+
+pub tap-grows : Grows readTap
+tap-grows =
+    record {
+      grows = λ d pos end a next.
+          head-and-run (readTap d pos end) 7 (be (part d (pos + 6) 1)) pos end (omega arith) (tap-cut d pos end) (tap-over d pos end) (tap-read d pos end) a next;
+    }
