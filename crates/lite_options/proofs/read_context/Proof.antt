@@ -1,0 +1,71 @@
+-- `lite_options::read_context` meets its contract: a run that must reach the end. Assumes nothing.
+use Prim.Native.Nat.{_+_}
+use mathlib.Core.Path.{_≡_, sym, ap, _∙_}
+use native.Mathlib.Omega.{arith}
+use Rattle.reference.specs.Reader.{ok, refused, seen}
+use Rattle.reference.specs.Tables.{view}
+use Rattle.reference.proofs.Steps.{seen-ok, seen-no, ending-no, ending-left, ending-ok}
+use Rattle.lite_options.specs.Head.{readRun}
+use Rattle.lite_options.specs.Told.{runTold}
+use Rattle.lite_options.proofs.Runs.{run-moves}
+use borrow.Author.Needs.{needs}
+use Rattle.lite_options.proofs.read_context.Statement.{statement}
+use Rattle.lite_options.proofs.read_context.Tie as tie
+
+read-run-requires : tie.Need-read-run-requires
+read-run-requires c κs = search needs
+
+enum-known-why : tie.Need-enum-known-why
+enum-known-why c = search needs
+
+enum-known-view : tie.Need-enum-known-view
+enum-known-view c = search needs
+
+sub-left-over : tie.Need-sub-left-over
+sub-left-over c =
+    let v = c .before .before in
+    let r = v .before .before in
+    let a = r .before .before .args in
+    let (s, e, w) = seen-ok (view (a .base + a .pos + 4)) (readRun 22 (a .d .now) (a .pos) (a .end)) (sym (r .read-run .ensures) ∙ ap runTold (v .view .given .1)) in
+    run-moves 22 (a .d .now) (a .pos) (a .end) (omega arith) e .1
+
+left-over-requires : tie.Need-left-over-requires
+left-over-requires c κs = search needs
+
+returns : tie.Need-returns
+returns c =
+    let v = c .before .before .before in
+    let r = v .before .before in
+    let a = r .before .before .args in
+    let (s, e, w) = seen-ok (view (a .base + a .pos + 4)) (readRun 22 (a .d .now) (a .pos) (a .end)) (sym (r .read-run .ensures) ∙ ap runTold (v .view .given .1)) in
+    ap refused (c .left-over .ensures)
+    ∙ ap (seen (view (a .base + a .pos + 4))) (sym (ending-left (a .d .now) (a .pos) (a .end) 23 (readRun 22) e (c .before .if1 .taken)))
+
+returns-2 : tie.Need-returns-2
+returns-2 c =
+    let r = c .before .before .before in
+    let a = r .before .before .args in
+    let e = seen-no (view (a .base + a .pos + 4)) (readRun 22 (a .d .now) (a .pos) (a .end)) (sym (r .read-run .ensures) ∙ ap runTold (c .before .why .given .1)) in
+    ap (seen (view (a .base + a .pos + 4))) (sym (ending-no (a .d .now) (a .pos) (a .end) 23 (readRun 22) e))
+
+returns-3 : tie.Need-returns-3
+returns-3 c =
+    let v = c .before .before in
+    let r = v .before .before in
+    let a = r .before .before .args in
+    let (s, e, w) = seen-ok (view (a .base + a .pos + 4)) (readRun 22 (a .d .now) (a .pos) (a .end)) (sym (r .read-run .ensures) ∙ ap runTold (v .view .given .1)) in
+    let q : v .view .given .0 .1 .0 ≡ a .end = omega arith in
+    (λ j. ok (w j) (q j)) ∙ ap (seen (view (a .base + a .pos + 4))) (sym (ending-ok (a .d .now) (a .pos) (a .end) 23 (readRun 22) (e ∙ ap (ok s) q)))
+
+pub read-context-spec : {M : Type 1} → statement M
+read-context-spec =
+    tie.close
+    (tie.spec
+    read-run-requires
+    enum-known-why
+    enum-known-view
+    sub-left-over
+    left-over-requires
+    returns
+    returns-2
+    returns-3)
