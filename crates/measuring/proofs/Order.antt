@@ -1,0 +1,97 @@
+-- The order of measuring's refusals: the source, the counts, the views, the image. Assumes nothing.
+use Prim.Native.Nat.{ℕ, _<_, _≤_}
+use mathlib.Core.Path.{_≡_, refl, sym, ap, _∙_}
+use mathlib.Core.List.{List}
+use native.Mathlib.Omega.{arith}
+use lib.ListN.{getD}
+use Rattle.reference.specs.declared.Refusal.{Refusal}
+use Rattle.reference.specs.declared.Tables.{Tables}
+use Rattle.reference.specs.declared.Check.{Check}
+use Rattle.reference.specs.declared.Check.the-variants.{Pass, Refuse}
+use Rattle.reference.specs.declared.Answer.the-variants.{Count, Refused}
+use Rattle.reference.specs.Reader.{refusal}
+use Rattle.reference.specs.Tables.{tapsIn, namesIn, extrasIn, usedOf}
+use Rattle.reference.specs.Checks.{both}
+use Rattle.reference.specs.Writer.{sizeOf, sourceCheck, usedCheck, sumCheck, counted, countsCheck, viewsCheck, imageCheck, measureCheck, told}
+use Rattle.reference.proofs.Checks.{stop, go, passes, le-test}
+use Rattle.table.specs.declared.Counts.{Counts}
+use Rattle.table.specs.Flat.{tablesFrom}
+use Rattle.measuring.specs.ByTable.{usedIn}
+use Rattle.measuring.proofs.Tests.{lt-test}
+
+-- ---- 8, over a lent table
+
+pub too-many-profiles : (t : List ℕ) → 8 < getD t 2 0 → countsCheck (tablesFrom t) ≡ Refuse (refusal 8 40 0 0)
+unfolding countsCheck tablesFrom
+too-many-profiles t h = stop (usedCheck 40 8 (getD t 2 0)) _ _ (lt-test (getD t 2 0) 8 _ h)
+
+-- the sums of the profiles' counts
+abbrev pub sumsOf : List ℕ → Counts
+sumsOf t =
+    let ps = usedIn t .profiles in
+    record { taps = counted tapsIn ps; names = counted namesIn ps; extras = counted extrasIn ps }
+
+abbrev table-check : ℕ → ℕ → ℕ → ℕ → Check
+table-check place size total used = both (usedCheck place size used) (sumCheck place total used)
+
+pub table-by-table : (t : List ℕ) → getD t 2 0 ≤ 8 → (s : Counts) → s ≡ sumsOf t
+    → both (both (usedCheck 41 36 (getD t 3 0)) (sumCheck 41 (s .taps) (getD t 3 0)))
+    (both (both (usedCheck 42 32 (getD t 4 0)) (sumCheck 42 (s .names) (getD t 4 0))) (both (usedCheck 43 32 (getD t 5 0)) (sumCheck 43 (s .extras) (getD t 5 0))))
+    ≡ countsCheck (tablesFrom t)
+unfolding countsCheck tablesFrom
+table-by-table t h s e =
+    ap (λ (x : Counts). both (table-check 41 36 (x .taps) (getD t 3 0)) (both (table-check 42 32 (x .names) (getD t 4 0)) (table-check 43 32 (x .extras) (getD t 5 0)))) e
+    ∙ sym (go (usedCheck 40 8 (getD t 2 0)) _ (le-test (getD t 2 0) 8 _ h))
+
+-- ---- what an answer says of its check
+
+pub told-pass : (c : Check) (m : ℕ) {n : ℕ} → Count n ≡ told c m → (c ≡ Pass) × (n ≡ m)
+told-pass Pass m e = (refl, cc)
+told-pass (Refuse r) m e = let z : _≡_ {A = ℕ} 0 1 = cc in absurd (omega arith)
+
+pub told-refuse : (c : Check) (m : ℕ) {r : Refusal} → Refused r ≡ told c m → c ≡ Refuse r
+told-refuse Pass m e = let z : _≡_ {A = ℕ} 0 1 = cc in absurd (omega arith)
+told-refuse (Refuse q) m e = cc
+
+-- ---- 6, 8, 9, 10
+
+pub counts-pass : (t : Tables) (n : ℕ) → measureCheck t n ≡ Pass → countsCheck t ≡ Pass
+unfolding measureCheck
+counts-pass t n h = passes _ _ (passes _ _ h .1) .0
+
+module _ (t : Tables) (n : ℕ) where
+  refuses : {r : Refusal} → measureCheck t n ≡ Refuse r → Refused r ≡ told (measureCheck t n) (sizeOf (usedOf t))
+  refuses e = ap (λ (c : Check). told c (sizeOf (usedOf t))) (sym e)
+
+  pub stop-source : 65535 < n → Refused (refusal 6 0 n 65535) ≡ told (measureCheck t n) (sizeOf (usedOf t))
+  unfolding measureCheck
+  stop-source h = refuses (stop (sourceCheck n) _ _ (lt-test n 65535 _ h))
+
+  module _ (source : n ≤ 65535) where
+    beyond-source : measureCheck t n ≡ both (countsCheck t) (both (viewsCheck n (usedOf t)) (imageCheck (sizeOf (usedOf t))))
+    unfolding measureCheck
+    beyond-source = go (sourceCheck n) _ (le-test n 65535 _ source)
+
+    pub stop-counts : {r : Refusal} → countsCheck t ≡ Refuse r → Refused r ≡ told (measureCheck t n) (sizeOf (usedOf t))
+    stop-counts e = refuses (beyond-source ∙ stop (countsCheck t) _ _ e)
+
+    module _ (counts : countsCheck t ≡ Pass) where
+      beyond-counts : measureCheck t n ≡ both (viewsCheck n (usedOf t)) (imageCheck (sizeOf (usedOf t)))
+      beyond-counts = beyond-source ∙ go (countsCheck t) _ counts
+
+      pub stop-views : {r : Refusal} → Refused r ≡ told (viewsCheck n (usedOf t)) (sizeOf (usedOf t)) → Refused r ≡ told (measureCheck t n) (sizeOf (usedOf t))
+      stop-views e = refuses (beyond-counts ∙ stop (viewsCheck n (usedOf t)) _ _ (told-refuse (viewsCheck n (usedOf t)) (sizeOf (usedOf t)) e))
+
+      module _ {total : ℕ} (views : Count total ≡ told (viewsCheck n (usedOf t)) (sizeOf (usedOf t))) where
+        beyond-views : measureCheck t n ≡ imageCheck (sizeOf (usedOf t))
+        beyond-views = beyond-counts ∙ go (viewsCheck n (usedOf t)) _ (told-pass (viewsCheck n (usedOf t)) (sizeOf (usedOf t)) views .0)
+
+        pub stop-image : 65535 < total → Refused (refusal 10 0 total 65535) ≡ told (measureCheck t n) (sizeOf (usedOf t))
+        stop-image h =
+            let e : total ≡ sizeOf (usedOf t) = told-pass (viewsCheck n (usedOf t)) (sizeOf (usedOf t)) views .1 in
+            ap (λ (m : ℕ). Refused (refusal 10 0 m 65535)) e ∙ refuses (beyond-views ∙ lt-test (sizeOf (usedOf t)) 65535 _ (omega (arith, e)))
+
+        pub all-pass : total ≤ 65535 → Count total ≡ told (measureCheck t n) (sizeOf (usedOf t))
+        all-pass h =
+            let e : total ≡ sizeOf (usedOf t) = told-pass (viewsCheck n (usedOf t)) (sizeOf (usedOf t)) views .1 in
+            ap Count e ∙ ap (λ (c : Check). told c (sizeOf (usedOf t))) (sym (beyond-views ∙ le-test (sizeOf (usedOf t)) 65535 _ (omega (arith, e))))

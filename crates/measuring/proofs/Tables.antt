@@ -1,0 +1,59 @@
+-- The used entries of a lent table, list by list; and what the used counts promise, once they pass. Assumes nothing.
+use Prim.Native.Nat.{ℕ, _≤_}
+use mathlib.Core.Path.{_≡_}
+use mathlib.Core.List.{List}
+use lib.ListN.{getD}
+use Rattle.reference.specs.declared.Check.the-variants.{Pass}
+use Rattle.reference.specs.Tables.{tapsIn, namesIn, extrasIn}
+use Rattle.reference.specs.Writer.{counted, countsCheck}
+use Rattle.reference.proofs.Checks.{passes, test-le, test-eq}
+use Rattle.table.specs.Flat.{tablesFrom, profileFrom, tapFrom, nameFrom, extraFrom, tapOfTable, nameOfTable, extraOfTable}
+use Rattle.table.proofs.Entries.{profileOfTable}
+use Rattle.measuring.specs.ByTable.{usedIn}
+use Rattle.measuring.proofs.Listed.{Listed, listed}
+
+module _ (t : List ℕ) where
+  pub profiles-listed : getD t 2 0 ≤ 8 → Listed (usedIn t .profiles) (λ k. profileOfTable t k) (getD t 2 0)
+  unfolding tablesFrom
+  profiles-listed h = listed profileFrom 10 t 6 8 (getD t 2 0) h
+
+  pub taps-listed : getD t 3 0 ≤ 36 → Listed (usedIn t .taps) (λ k. tapOfTable t k) (getD t 3 0)
+  unfolding tablesFrom
+  taps-listed h = listed tapFrom 5 t 86 36 (getD t 3 0) h
+
+  pub names-listed : getD t 4 0 ≤ 32 → Listed (usedIn t .names) (λ k. nameOfTable t k) (getD t 4 0)
+  unfolding tablesFrom
+  names-listed h = listed nameFrom 4 t 266 32 (getD t 4 0) h
+
+  pub extras-listed : getD t 5 0 ≤ 32 → Listed (usedIn t .extras) (λ k. extraOfTable t k) (getD t 5 0)
+  unfolding tablesFrom
+  extras-listed h = listed extraFrom 3 t 394 32 (getD t 5 0) h
+
+-- used counts within the sizes, and equal to the sums
+pub record Agreeing (t : List ℕ) : Type 0 where
+  pub profiles : getD t 2 0 ≤ 8
+  pub taps : getD t 3 0 ≤ 36
+  pub tapsSum : counted tapsIn (usedIn t .profiles) ≡ getD t 3 0
+  pub names : getD t 4 0 ≤ 32
+  pub namesSum : counted namesIn (usedIn t .profiles) ≡ getD t 4 0
+  pub extras : getD t 5 0 ≤ 32
+  pub extrasSum : counted extrasIn (usedIn t .profiles) ≡ getD t 5 0
+
+pub agreeing : (t : List ℕ) → countsCheck (tablesFrom t) ≡ Pass → Agreeing t
+unfolding countsCheck tablesFrom
+agreeing t h =
+    let (p, r₁) = passes _ _ h in
+    let (a, r₂) = passes _ _ r₁ in
+    let (b, c) = passes _ _ r₂ in
+    let (ta, sa) = passes _ _ a in
+    let (tb, sb) = passes _ _ b in
+    let (tc, sc) = passes _ _ c in
+    record {
+      profiles = test-le _ _ _ p;
+      taps = test-le _ _ _ ta;
+      tapsSum = test-eq _ _ _ sa;
+      names = test-le _ _ _ tb;
+      namesSum = test-eq _ _ _ sb;
+      extras = test-le _ _ _ tc;
+      extrasSum = test-eq _ _ _ sc;
+    }

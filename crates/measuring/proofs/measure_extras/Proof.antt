@@ -1,0 +1,97 @@
+-- `measuring::measure_extras` meets its contract. The entries checked, the octets summed and what is left make the whole. Assumes nothing.
+use borrow.Author.Needs.{needs}
+use Prim.Native.Nat.{_-_, _*_, _≤_}
+use mathlib.Core.Path.{_≡_, refl, sym, _∙_}
+use native.Mathlib.Omega.{arith}
+use lib.ListN.{getD}
+use Rattle.reference.specs.Writer.{extraSize, extraViews}
+use Rattle.measuring.specs.ByTable.{usedIn}
+use Rattle.measuring.proofs.Going.{Measuring, measure-begin, measure-turn, measure-stop, measure-end}
+use Rattle.measuring.proofs.Tables.{extras-listed}
+use Rattle.measuring.proofs.measure_extras.Statement.{statement}
+use Rattle.measuring.proofs.measure_extras.Tie as tie
+
+abbrev Inv-loop : tie.InvT-loop
+Inv-loop t n used total₀ i₀ total i =
+    (i ≤ used) × (used ≡ getD t 5 0) × (total ≤ i * 0x300000000) × Measuring (extraViews n) extraSize (usedIn t .extras) total i
+
+abbrev μ-loop : tie.MeasureT-loop
+μ-loop t n used total₀ i₀ total i = used - i
+
+shared-slice-read-used : tie.Need-shared-slice-read-used Inv-loop μ-loop
+shared-slice-read-used c = search needs
+
+cast-used : tie.Need-cast-used Inv-loop μ-loop
+cast-used c = omega (arith, c .shared-slice-known2 .given 5)
+
+loop-holds : tie.Need-loop-holds Inv-loop μ-loop
+loop-holds c = (omega arith, refl, omega arith, measure-begin)
+
+extra-at-requires : tie.Need-extra-at-requires Inv-loop μ-loop
+extra-at-requires c κs = (omega arith, omega arith)
+
+check-view-requires : tie.Need-check-view-requires Inv-loop μ-loop
+check-view-requires c κs = search needs
+
+enum-known-found : tie.Need-enum-known-found Inv-loop μ-loop
+enum-known-found c = search needs
+
+returns : tie.Need-returns Inv-loop μ-loop
+returns c =
+    let k = c .before .before .before in
+    let e = k .before .before in
+    let l = e .before .before in
+    let s = l .before .before .before in
+    (measure-stop (l .loop .inv .3) (extras-listed (s .args .t .now) (omega arith)) (omega arith) _ (e .extra-at .ensures) (sym (k .check-view .ensures) ∙ c .before .found .given .1), omega arith)
+
+enum-told : tie.Need-enum-told Inv-loop μ-loop
+enum-told c = search needs
+
+extra-size-requires : tie.Need-extra-size-requires Inv-loop μ-loop
+extra-size-requires c κs = search needs
+
+add-total : tie.Need-add-total Inv-loop μ-loop
+add-total c = omega arith
+
+add-i : tie.Need-add-i Inv-loop μ-loop
+add-i c = omega arith
+
+loop-less : tie.Need-loop-less Inv-loop μ-loop
+loop-less c = omega arith
+
+loop-again : tie.Need-loop-again Inv-loop μ-loop
+loop-again c =
+    let k = c .before .before .before in
+    let e = k .before .before in
+    let l = e .before .before in
+    let s = l .before .before .before in
+    let extras = extras-listed (s .args .t .now) (omega arith) in
+    let passes = sym (k .check-view .ensures) ∙ c .before .enum-told .given .1 in
+    (omega arith, l .loop .inv .1, omega arith, measure-turn (l .loop .inv .3) extras (omega arith) _ (e .extra-at .ensures) passes _ (c .extra-size .ensures .0))
+
+returns-2 : tie.Need-returns-2 Inv-loop μ-loop
+returns-2 c =
+    let l = c .before in
+    let s = l .before .before .before in
+    (measure-end (l .loop .inv .3) (extras-listed (s .args .t .now) (omega arith)) (omega arith), omega arith)
+
+pub measure-extras-spec : {M : Type 1} → statement M
+measure-extras-spec =
+    tie.close
+    (tie.spec
+    Inv-loop
+    μ-loop
+    shared-slice-read-used
+    cast-used
+    loop-holds
+    extra-at-requires
+    check-view-requires
+    enum-known-found
+    returns
+    enum-told
+    extra-size-requires
+    add-total
+    add-i
+    loop-less
+    loop-again
+    returns-2)
