@@ -1,0 +1,156 @@
+// Questions about a reference's parts: an object's kind, a tap's two numbers, the first BIOP profile, and whether an address is DVB's.
+// Each contract says what the answer is in the terms of reference's specs/Questions.
+use octets::be32;
+use octets::octet;
+use reference::NsapAddress;
+use reference::PROFILES;
+use reference::Profile;
+use reference::Refusal;
+use reference::Tables;
+use reference::TaggedProfile;
+use reference::wrong;
+ghost use mathlib.Core.Path.{_≡_};
+ghost use Rattle.reference.specs.Questions.{isBiop, kindNumbered, kindOf, tapNumbersOf, firstBiop, dvbAddress};
+ghost use Rattle.questions.specs.Told.{kindTold, numbersTold, firstTold};
+
+// The kind of an object; an unknown one with its four octets as a number.
+pub enum ObjectKind {
+    Directory,
+    File,
+    Stream,
+    ServiceGateway,
+    StreamEvent,
+    Unknown(u32),
+}
+
+// A tap's transaction id and timeout, which it has together or not at all.
+pub enum TapNumbers {
+    Both { transaction: u32, timeout: u32 },
+    Neither,
+}
+
+// The index of the first BIOP profile.
+pub enum FirstBiop {
+    At(usize),
+    Nothing,
+    Refused(Refusal),
+}
+
+// The five kinds: three letters and a zero octet.
+const DIR: u32 = 0x64697200;
+
+const FIL: u32 = 0x66696C00;
+
+const STR: u32 = 0x73747200;
+
+const SRG: u32 = 0x73726700;
+
+const STE: u32 = 0x73746500;
+
+const USE_DELIVERY: u16 = 0x0016;
+
+// The place of a refusal that names the table of profiles.
+const PLACE_PROFILES: u8 = 40;
+
+fn kind_numbered(n: u32) -> ObjectKind
+    ensures { λ r. ⌜ kindTold r ≡ kindNumbered n ⌝ }
+{
+    if n == DIR {
+        return ObjectKind::Directory;
+    }
+    if n == FIL {
+        return ObjectKind::File;
+    }
+    if n == STR {
+        return ObjectKind::Stream;
+    }
+    if n == SRG {
+        return ObjectKind::ServiceGateway;
+    }
+    if n == STE {
+        return ObjectKind::StreamEvent;
+    }
+    ObjectKind::Unknown(n)
+}
+
+// The kind that a type id's octets name; never refused.
+pub fn object_kind(type_id: &[u8]) -> ObjectKind
+    ensures { λ r. ⌜ kindTold r ≡ kindOf (now («type_id» .entry)) ⌝ }
+{
+    if type_id.len() == 4 {
+        return kind_numbered(be32(type_id, 0));
+    }
+    ObjectKind::Unknown(0)
+}
+
+// The two numbers that a tap of this use says in its selector's octets; never refused.
+pub fn tap_numbers(use_: u16, selector: &[u8]) -> TapNumbers
+    ensures { λ r. ⌜ numbersTold r ≡ tapNumbersOf «use_» (now (selector .entry)) ⌝ }
+{
+    if use_ != USE_DELIVERY {
+        return TapNumbers::Neither;
+    }
+    if selector.len() < 10 {
+        return TapNumbers::Neither;
+    }
+    let transaction = be32(selector, 2);
+    let timeout = be32(selector, 6);
+    TapNumbers::Both {
+        transaction,
+        timeout,
+    }
+}
+
+fn is_biop(p: Profile) -> bool
+    ensures { λ r. ⌜ r ≡ isBiop (p .body) ⌝ }
+{
+    let body = p.body;
+    match body {
+        TaggedProfile::Opaque { tag: _, data: _ } => false,
+        TaggedProfile::Biop {
+            location: _,
+            taps: _,
+            extras: _,
+        } => true,
+        TaggedProfile::LiteOptions {
+            address: _,
+            names: _,
+            context: _,
+            extras: _,
+        } => false,
+    }
+}
+
+// The first BIOP profile among the used ones; 8 if more are used than the table has.
+pub fn first_biop(t: Tables) -> FirstBiop
+    ensures { λ r. ⌜ firstTold r ≡ firstBiop t ⌝ }
+{
+    let used = t.profiles_used as usize;
+    if PROFILES < used {
+        return FirstBiop::Refused(wrong(8, PLACE_PROFILES));
+    }
+    let mut i: usize = 0;
+    while i < used {
+        if is_biop(t.profiles[i]) {
+            return FirstBiop::At(i);
+        }
+        i += 1;
+    }
+    FirstBiop::Nothing
+}
+
+// Whether an address of twenty octets bears the four constants of its kind.
+pub fn is_dvb(a: [u8; 20]) -> bool
+    ensures { λ r. ⌜ r ≡ dvbAddress a ⌝ }
+{
+    if octet(&a, 0) != NsapAddress::AFI {
+        return false;
+    }
+    if octet(&a, 1) != NsapAddress::NSAP_TYPE {
+        return false;
+    }
+    if octet(&a, 6) != NsapAddress::SPECIFIER_TYPE {
+        return false;
+    }
+    be32(&a, 16) == NsapAddress::RESERVED
+}
