@@ -16,7 +16,7 @@ use Rattle.reference.specs.Tables.{TapFits, BodyFits, EntryFits, Typed, filled,
 use Rattle.table.specs.Region.{chunks}
 use Rattle.table.specs.Flat.{bodyNumbers, tapNumbers, nameNumbers, extraNumbers, bodyWide, profileFrom, bodyFrom, tapFrom, nameFrom, extraFrom, tablesFrom, flat}
 use Rattle.table.proofs.Chunks.{chunks-append}
-use Rattle.table.proofs.Stored.{numbers-length}
+use Rattle.by_value.proofs.Whole.{bodies-joined, bodies-wide, taps-wide, names-wide}
 
 -- ---- one entry
 
@@ -86,9 +86,6 @@ module _ {E : Type 0} (P : E → Type 0) (from : List ℕ → E) (numbers : E �
 behind : (p q : List ℕ) (n m : ℕ) → length p ≡ n → drop (n + m) (p ++ q) ≡ drop m q
 behind p q n m h = ap (λ (k : ℕ). drop (k + m) (p ++ q)) (sym h) ∙ drop-append-add p q m
 
-wide-all : {E : Type 0} (numbers : E → List ℕ) (w : ℕ) → ((x : E) → length (numbers x) ≡ w) → (xs : List E) (n : ℕ) → length xs ≡ n → length (joined (map numbers xs)) ≡ w * n
-wide-all numbers w wide xs n h = numbers-length (record { start = 0; width = w; size = n; numbers = numbers; wide = wide }) xs ∙ ap (λ (k : ℕ). w * k) h
-
 pub tables-flat : (x : Tables) → Typed x → tablesFrom (flat x) ≡ x
 unfolding tablesFrom flat
 tables-flat x y =
@@ -96,9 +93,9 @@ tables-flat x y =
     let ts = joined (map tapNumbers (x .taps)) in
     let ns = joined (map nameNumbers (x .names)) in
     let es = joined (map extraNumbers (x .extras)) in
-    let lb : length bs ≡ 80 = wide-all (λ p. bodyNumbers (p .body)) 10 (λ p. bodyWide (p .body)) (x .profiles) 8 (y .eight) in
-    let lt : length ts ≡ 180 = wide-all tapNumbers 5 (λ t. refl) (x .taps) 36 (y .thirtySix) in
-    let ln : length ns ≡ 128 = wide-all nameNumbers 4 (λ n. refl) (x .names) 32 (y .names) in
+    let lb : length bs ≡ 80 = ap length (bodies-joined x y) ∙ bodies-wide x y in
+    let lt : length ts ≡ 180 = taps-wide x y in
+    let ln : length ns ≡ 128 = names-wide x y in
     let ps : chunks profileFrom 10 8 (bs ++ (ts ++ (ns ++ (es ++ [])))) ≡ x .profiles =
     chunks-back EntryFits profileFrom (λ p. bodyNumbers (p .body)) profile-back 10 8 (λ p. bodyWide (p .body)) (x .profiles) (y .profiles) (y .eight) _ in
     let ks : chunks tapFrom 5 36 (drop 80 (bs ++ (ts ++ (ns ++ (es ++ []))))) ≡ x .taps =

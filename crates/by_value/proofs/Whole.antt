@@ -44,7 +44,7 @@ module _ (x : Tables) (y : Typed x) where
   abbrev es : List ℕ
   es = joined (map extraNumbers (x .extras))
 
-  pub bodies-size : length (bodies (x .profiles)) ≡ 8
+  bodies-size : length (bodies (x .profiles)) ≡ 8
   bodies-size = length-map (x .profiles) _ ∙ y .eight
 
   pub bodies-wide : length bs ≡ 80
@@ -56,7 +56,7 @@ module _ (x : Tables) (y : Typed x) where
   pub names-wide : length ns ≡ 128
   names-wide = numbers-length nameRegion (x .names) ∙ ap (λ (k : ℕ). 4 * k) (y .names)
 
-  pub extras-wide : length es ≡ 96
+  extras-wide : length es ≡ 96
   extras-wide = numbers-length extraRegion (x .extras) ∙ ap (λ (k : ℕ). 3 * k) (y .thirtyTwo)
 
   abbrev rest : List ℕ
@@ -67,12 +67,14 @@ module _ (x : Tables) (y : Typed x) where
       length-append ((bs ++ ts) ++ ns) es
       ∙ omega (arith, length-append (bs ++ ts) ns, length-append bs ts, bodies-wide, taps-wide, names-wide, extras-wide)
 
+  pub bodies-joined : joined (map (λ p. bodyNumbers (p .body)) (x .profiles)) ≡ bs
+  bodies-joined = ap joined (sym (map-map bodyNumbers (λ p. p .body) (x .profiles)))
+
   flat-rest : flat x ≡ frontOf x ++ rest
   unfolding flat
   flat-rest =
-      let b : joined (map (λ p. bodyNumbers (p .body)) (x .profiles)) ≡ bs = ap joined (sym (map-map bodyNumbers (λ p. p .body) (x .profiles))) in
       ap (λ (l : List ℕ). frontOf x ++ l)
-      (ap₂ (λ (l r : List ℕ). l ++ (ts ++ (ns ++ r))) b (append-nil es)
+      (ap₂ (λ (l r : List ℕ). l ++ (ts ++ (ns ++ r))) bodies-joined (append-nil es)
       ∙ sym (append-assoc bs ts (ns ++ es))
       ∙ sym (append-assoc (bs ++ ts) ns es))
 
