@@ -1,7 +1,9 @@
 -- `lite_options::read_context` meets its contract: a run that must reach the end. Assumes nothing.
-use Prim.Native.Nat.{_+_}
+use Prim.Native.Nat.{ℕ, _+_}
 use mathlib.Core.Path.{_≡_, sym, ap, _∙_}
+use mathlib.Core.List.{List}
 use native.Mathlib.Omega.{arith}
+use denote.Ref.{now}
 use Rattle.reference.specs.Reader.{ok, refused, seen}
 use Rattle.reference.specs.Tables.{view}
 use Rattle.reference.proofs.Steps.{seen-ok, seen-no, ending-no, ending-left, ending-ok}
@@ -11,6 +13,17 @@ use Rattle.lite_options.proofs.Runs.{run-moves}
 use borrow.Author.Needs.{needs}
 use Rattle.lite_options.proofs.read_context.Statement.{statement}
 use Rattle.lite_options.proofs.read_context.Tie as tie
+
+-- at the run: the function's entry, and what was read
+abbrev entry : tie.After-view → tie.Start
+entry v = v .before .before .before .before
+
+context-read : (v : tie.After-view)
+    → (s : List ℕ) × (readRun 22 (now (entry v .args .d)) (entry v .args .pos) (entry v .args .end) ≡ ok s (v .view .given .0 .1 .0))
+    × (v .view .given .0 .0 ≡ view (entry v .args .base + entry v .args .pos + 4) s)
+context-read v =
+    let a = entry v .args in
+    seen-ok (view (a .base + a .pos + 4)) (readRun 22 (a .d .now) (a .pos) (a .end)) (sym (v .before .before .read-run .ensures) ∙ ap runTold (v .view .given .1))
 
 read-run-requires : tie.Need-read-run-requires
 read-run-requires c κs = search needs
@@ -24,9 +37,8 @@ enum-known-view c = search needs
 sub-left-over : tie.Need-sub-left-over
 sub-left-over c =
     let v = c .before .before in
-    let r = v .before .before in
-    let a = r .before .before .args in
-    let (s, e, w) = seen-ok (view (a .base + a .pos + 4)) (readRun 22 (a .d .now) (a .pos) (a .end)) (sym (r .read-run .ensures) ∙ ap runTold (v .view .given .1)) in
+    let a = entry v .args in
+    let (s, e, w) = context-read v in
     run-moves 22 (a .d .now) (a .pos) (a .end) (omega arith) e .1
 
 left-over-requires : tie.Need-left-over-requires
@@ -35,11 +47,10 @@ left-over-requires c κs = search needs
 returns : tie.Need-returns
 returns c =
     let v = c .before .before .before in
-    let r = v .before .before in
-    let a = r .before .before .args in
-    let (s, e, w) = seen-ok (view (a .base + a .pos + 4)) (readRun 22 (a .d .now) (a .pos) (a .end)) (sym (r .read-run .ensures) ∙ ap runTold (v .view .given .1)) in
+    let a = entry v .args in
+    let (s, e, w) = context-read v in
     ap refused (c .left-over .ensures)
-    ∙ ap (seen (view (a .base + a .pos + 4))) (sym (ending-left (a .d .now) (a .pos) (a .end) 23 (readRun 22) e (c .before .if1 .taken)))
+    ∙ ap (seen (view (a .base + a .pos + 4))) (sym (ending-left (a .d .now) (a .pos) (a .end) 23 (readRun 22) e (λ h. omega (arith, h))))
 
 returns-2 : tie.Need-returns-2
 returns-2 c =
@@ -51,9 +62,8 @@ returns-2 c =
 returns-3 : tie.Need-returns-3
 returns-3 c =
     let v = c .before .before in
-    let r = v .before .before in
-    let a = r .before .before .args in
-    let (s, e, w) = seen-ok (view (a .base + a .pos + 4)) (readRun 22 (a .d .now) (a .pos) (a .end)) (sym (r .read-run .ensures) ∙ ap runTold (v .view .given .1)) in
+    let a = entry v .args in
+    let (s, e, w) = context-read v in
     let q : v .view .given .0 .1 .0 ≡ a .end = omega arith in
     (λ j. ok (w j) (q j)) ∙ ap (seen (view (a .base + a .pos + 4))) (sym (ending-ok (a .d .now) (a .pos) (a .end) 23 (readRun 22) (e ∙ ap (ok s) q)))
 

@@ -5,6 +5,7 @@ use native.Mathlib.Omega.{arith}
 use lib.ListN.{length}
 use Rattle.octets.specs.Octets.{be, part}
 use Rattle.octets.proofs.Part.{length-part}
+use Rattle.reference.specs.declared.View.{View}
 use Rattle.reference.specs.Reader.{ok, refused, refusal, seen}
 use Rattle.reference.specs.Tables.{view}
 use Rattle.lite_options.proofs.Runs.{length-cut, run-over, run-read}
@@ -50,10 +51,11 @@ returns-3 c =
     let b = c .before .before in
     let a = b .before .before .before .args in
     let n = be (part (a .d .now) (a .pos) 4) in
-    let p : a .base + (a .pos + 4) ≡ a .base + a .pos + 4 = omega arith in
-    let q : b .be32 .result ≡ length (part (a .d .now) (a .pos + 4) n) = b .be32 .ensures ∙ sym (length-part (a .d .now) (a .pos + 4) n (omega arith)) in
-    ap (λ v. ok v (a .pos + 4 + b .be32 .result)) (c .view-of .ensures)
-    ∙ (λ j. ok (record { at = p j; len = q j }) (a .pos + 4 + b .be32 .ensures j))
+    let v = c .view-of in
+    let p : v .result .at ≡ a .base + a .pos + 4 = omega (arith, ap (λ (w : View). w .at) (v .ensures)) in
+    let q : v .result .len ≡ length (part (a .d .now) (a .pos + 4) n) =
+    ap (λ (w : View). w .len) (v .ensures) ∙ b .be32 .ensures ∙ sym (length-part (a .d .now) (a .pos + 4) n (omega arith)) in
+    (λ j. ok (record { at = p j; len = q j }) (a .pos + 4 + b .be32 .ensures j))
     ∙ ap (seen (view (a .base + a .pos + 4))) (sym (run-read (a .place) (a .d .now) (a .pos) (a .end) (omega arith) (omega arith)))
 
 pub read-run-spec : {M : Type 1} → statement M

@@ -28,10 +28,9 @@ wrong-requires c κs = search needs
 
 returns-2 : tie.Need-returns-2
 returns-2 c =
-    let o = c .before .before in
-    let a = o .before .before .before .args in
+    let a = c .before .before .before .before .before .args in
     ap refused (c .wrong .ensures)
-    ∙ ap (seen serviceSeen) (sym (head-wrong (a .d .now) (a .pos) (a .stop) (omega arith) (λ h. c .before .if2 .taken (o .octet .ensures ∙ h))))
+    ∙ ap (seen serviceSeen) (sym (head-wrong (a .d .now) (a .pos) (a .stop) (omega arith) (λ h. omega (arith, h))))
 
 add-count : tie.Need-add-count
 add-count c = search needs
