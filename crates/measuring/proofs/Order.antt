@@ -10,13 +10,13 @@ use Rattle.reference.specs.declared.Check.{Check}
 use Rattle.reference.specs.declared.Check.the-variants.{Pass, Refuse}
 use Rattle.reference.specs.declared.Answer.the-variants.{Count, Refused}
 use Rattle.reference.specs.Reader.{refusal}
-use Rattle.reference.specs.Tables.{tapsIn, namesIn, extrasIn, usedOf}
+use Rattle.reference.specs.Tables.{usedOf}
 use Rattle.reference.specs.Checks.{both}
-use Rattle.reference.specs.Writer.{sizeOf, sourceCheck, usedCheck, sumCheck, counted, countsCheck, viewsCheck, imageCheck, measureCheck, told}
+use Rattle.reference.specs.Writer.{sizeOf, sourceCheck, usedCheck, sumCheck, countsCheck, viewsCheck, imageCheck, measureCheck, told}
 use Rattle.reference.proofs.Checks.{stop, go, passes, le-test}
 use Rattle.table.specs.declared.Counts.{Counts}
 use Rattle.table.specs.Flat.{tablesFrom}
-use Rattle.measuring.specs.ByTable.{usedIn}
+use Rattle.measuring.specs.ByTable.{sumsOf}
 use Rattle.measuring.proofs.Tests.{lt-test}
 
 -- ---- 8, over a lent table
@@ -25,12 +25,7 @@ pub too-many-profiles : (t : List ℕ) → 8 < getD t 2 0 → countsCheck (table
 unfolding countsCheck tablesFrom
 too-many-profiles t h = stop (usedCheck 40 8 (getD t 2 0)) _ _ (lt-test (getD t 2 0) 8 _ h)
 
--- the sums of the profiles' counts
-abbrev pub sumsOf : List ℕ → Counts
-sumsOf t =
-    let ps = usedIn t .profiles in
-    record { taps = counted tapsIn ps; names = counted namesIn ps; extras = counted extrasIn ps }
-
+-- .. and after them each table
 abbrev table-check : ℕ → ℕ → ℕ → ℕ → Check
 table-check place size total used = both (usedCheck place size used) (sumCheck place total used)
 

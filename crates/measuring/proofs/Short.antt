@@ -7,7 +7,7 @@ use mathlib.Core.Bool.{Bool, true, false}
 use mathlib.Core.List.{List}
 use native.Mathlib.Omega.{arith}
 use lib.Dec.{eqb}
-use lib.ListN.{getD, take}
+use lib.ListN.{length, getD, take}
 use Rattle.octets.specs.Octets.{part}
 use Rattle.reference.specs.declared.Tap.{Tap}
 use Rattle.reference.specs.declared.LiteComponent.{LiteComponent}
@@ -18,22 +18,20 @@ use Rattle.reference.specs.declared.Check.{Check}
 use Rattle.reference.specs.declared.Check.the-variants.{Pass, Refuse}
 use Rattle.reference.specs.Tables.{Own, tapsIn, namesIn, extrasIn, ownedOf, bodyView, noProfile}
 use Rattle.reference.specs.Checks.{both, each, sum}
-use Rattle.reference.specs.Writer.{tapSize, counted, shortCheck, extraShort, bodyShort, ownShort}
+use Rattle.reference.specs.Writer.{tapSize, counted, shortCheck, extraShort, ownShort}
 use Rattle.reference.proofs.Checks.{stop, go}
 use Rattle.reference.proofs.Walk.{ahead, ahead-open, ahead-end, counted-open, counted-within}
 use Rattle.table.specs.Flat.{bodyFrom, bodyOfTable}
 use Rattle.table.proofs.Entries.{profileOfTable}
 use Rattle.entries.proofs.Sorts.{body-biop, body-lite, body-opaque}
 use Rattle.measuring.specs.ByTable.{usedIn}
+use Rattle.measuring.specs.Short.{shortAt, shortHere, Within}
 use Rattle.measuring.proofs.Listed.{Listed}
 use Rattle.measuring.proofs.Tables.{Agreeing, profiles-listed}
 
 -- ---- a profile whose taps begin at a and whose extras begin at c
 
 module _ (ts : List Tap) (es : List LiteComponent) (a c : ℕ) where
-  abbrev pub shortAt : TaggedProfile → Check
-  shortAt b = bodyShort b (part ts a (tapsIn b)) (part es c (extrasIn b))
-
   abbrev extrasAt : TaggedProfile → Check
   extrasAt b = each extraShort (part es c (extrasIn b))
 
@@ -41,25 +39,22 @@ module _ (ts : List Tap) (es : List LiteComponent) (a c : ℕ) where
   biopAt b = both (shortCheck (9 + bodyView b .len)) (both (shortCheck (1 + sum tapSize (part ts a (tapsIn b)))) (extrasAt b))
 
   module _ (l : List ℕ) where
-    pub short-biop : getD l 0 0 ≡ 1 → biopAt (bodyFrom l) ≡ shortAt (bodyFrom l)
-    short-biop e = ap biopAt (body-biop l e) ∙ sym (ap shortAt (body-biop l e))
+    pub short-biop : getD l 0 0 ≡ 1 → biopAt (bodyFrom l) ≡ shortAt ts es a c (bodyFrom l)
+    short-biop e = ap biopAt (body-biop l e) ∙ sym (ap (shortAt ts es a c) (body-biop l e))
 
-    pub short-other : getD l 0 0 ≢ 1 → extrasAt (bodyFrom l) ≡ shortAt (bodyFrom l)
+    pub short-other : getD l 0 0 ≢ 1 → extrasAt (bodyFrom l) ≡ shortAt ts es a c (bodyFrom l)
     unfolding each
     short-other h = by-sort (eqb (getD l 0 0) 2) refl
       where
-        by-sort : (b : Bool) → eqb (getD l 0 0) 2 ≡ b → extrasAt (bodyFrom l) ≡ shortAt (bodyFrom l)
-        by-sort true e = let q = body-lite l (eqb-true _ _ e) in ap extrasAt q ∙ sym (ap shortAt q)
-        by-sort false e = let q = body-opaque l h (eqb-false _ _ e) in ap extrasAt q ∙ sym (ap shortAt q)
+        by-sort : (b : Bool) → eqb (getD l 0 0) 2 ≡ b → extrasAt (bodyFrom l) ≡ shortAt ts es a c (bodyFrom l)
+        by-sort true e = let q = body-lite l (eqb-true _ _ e) in ap extrasAt q ∙ sym (ap (shortAt ts es a c) q)
+        by-sort false e = let q = body-opaque l h (eqb-false _ _ e) in ap extrasAt q ∙ sym (ap (shortAt ts es a c) q)
 
 -- ---- the profiles in a row
 
 module _ (t : List ℕ) where
   abbrev left : ℕ → ℕ → ℕ → ℕ → List Own
   left = let u = usedIn t in ahead (u .profiles) (u .taps) (u .names) (u .extras) noProfile
-
-  abbrev shortHere : ℕ → ℕ → ℕ → Check
-  shortHere tap extra i = shortAt (usedIn t .taps) (usedIn t .extras) tap extra (bodyOfTable t i)
 
 -- the first i profiles have passed; their taps and extras are so many
 pub record Passed (t : List ℕ) (tap extra i : ℕ) : Type 0 where
@@ -78,7 +73,9 @@ module _ {t : List ℕ} (g : Agreeing t) {tap extra i : ℕ} (p : Passed t tap e
   unfolding each
   passed-end h =
       let u = usedIn t in
-      sym (ap (each ownShort) (ahead-end (u .profiles) (u .taps) (u .names) (u .extras) noProfile i tap (counted namesIn (take i (u .profiles))) extra (omega (arith, profiles-here .size)))) ∙ p .rest
+      let b = counted namesIn (take i (u .profiles)) in
+      let none = ahead-end (u .profiles) (u .taps) (u .names) (u .extras) noProfile i tap b extra (omega (arith, profiles-here .size)) in
+      sym (ap (each ownShort) none) ∙ p .rest
 
   module _ (h : i < getD t 2 0) where
     body-here : getD (usedIn t .profiles) i noProfile .body ≡ bodyOfTable t i
@@ -90,14 +87,20 @@ module _ {t : List ℕ} (g : Agreeing t) {tap extra i : ℕ} (p : Passed t tap e
         ap (λ (b : TaggedProfile). counted f (take i (usedIn t .profiles)) + f b) (sym body-here)
         ∙ counted-open f (usedIn t .profiles) i noProfile (omega (arith, profiles-here .size))
 
-    pub taps-fit : tap + tapsIn (bodyOfTable t i) ≤ getD t 3 0
-    taps-fit = omega (arith, p .taps, more tapsIn, counted-within tapsIn (usedIn t .profiles) (i + 1), g .tapsSum)
-
-    pub extras-fit : extra + extrasIn (bodyOfTable t i) ≤ getD t 5 0
-    extras-fit = omega (arith, p .extras, more extrasIn, counted-within extrasIn (usedIn t .profiles) (i + 1), g .extrasSum)
+    pub passed-within : length t ≡ 490 → Within t i tap extra
+    passed-within n =
+        let ps = usedIn t .profiles in
+        record {
+          numbers = n;
+          profile = omega (arith, g .profiles);
+          taps = g .taps;
+          extras = g .extras;
+          tapsWithin = omega (arith, p .taps, more tapsIn, counted-within tapsIn ps (i + 1), g .tapsSum);
+          extrasWithin = omega (arith, p .extras, more extrasIn, counted-within extrasIn ps (i + 1), g .extrasSum);
+        }
 
     here : each ownShort (ownedOf (usedIn t))
-        ≡ both (shortHere t tap extra i)
+        ≡ both (shortHere t i tap extra)
         (each ownShort (left t (i + 1) (tap + tapsIn (bodyOfTable t i)) (counted namesIn (take (i + 1) (usedIn t .profiles))) (extra + extrasIn (bodyOfTable t i))))
     unfolding each
     here =
@@ -110,15 +113,15 @@ module _ {t : List ℕ} (g : Agreeing t) {tap extra i : ℕ} (p : Passed t tap e
         ∙ (λ j.
         both (shortAt (u .taps) (u .extras) tap extra (q j)) (each ownShort (left t (i + 1) (tap + tapsIn (q j)) (n j) (extra + extrasIn (q j)))))
 
-    pub passed-turn : shortHere t tap extra i ≡ Pass → {m n : ℕ} → m ≡ tapsIn (bodyOfTable t i) → n ≡ extrasIn (bodyOfTable t i) → Passed t (tap + m) (extra + n) (i + 1)
+    pub passed-turn : shortHere t i tap extra ≡ Pass → {m n : ℕ} → m ≡ tapsIn (bodyOfTable t i) → n ≡ extrasIn (bodyOfTable t i) → Passed t (tap + m) (extra + n) (i + 1)
     passed-turn e p₁ p₂ =
         record {
           taps = omega (arith, p .taps, p₁, more tapsIn);
           extras = omega (arith, p .extras, p₂, more extrasIn);
           rest =
               (λ j. each ownShort (left t (i + 1) (tap + p₁ j) (counted namesIn (take (i + 1) (usedIn t .profiles))) (extra + p₂ j)))
-              ∙ sym (here ∙ go (shortHere t tap extra i) _ e);
+              ∙ sym (here ∙ go (shortHere t i tap extra) _ e);
         }
 
-    pub passed-stop : {r : Refusal} → shortHere t tap extra i ≡ Refuse r → Refuse r ≡ each ownShort (ownedOf (usedIn t))
-    passed-stop e = sym (here ∙ stop (shortHere t tap extra i) _ _ e)
+    pub passed-stop : {r : Refusal} → shortHere t i tap extra ≡ Refuse r → Refuse r ≡ each ownShort (ownedOf (usedIn t))
+    passed-stop e = sym (here ∙ stop (shortHere t i tap extra) _ _ e)

@@ -8,9 +8,10 @@ use Rattle.reference.specs.declared.Profile.{Profile as Entry}
 use Rattle.reference.specs.declared.Check.{Check}
 use Rattle.reference.specs.declared.Answer.{Answer as Told}
 use Rattle.reference.specs.declared.Answer.the-variants.{Count, Refused}
-use Rattle.reference.specs.Tables.{Used, usedOf, bodyView}
+use Rattle.reference.specs.Tables.{Used, tapsIn, namesIn, extrasIn, usedOf, bodyView}
 use Rattle.reference.specs.Checks.{each, sum}
-use Rattle.reference.specs.Writer.{told}
+use Rattle.reference.specs.Writer.{counted, told}
+use Rattle.table.specs.declared.Counts.{Counts}
 use Rattle.table.specs.Flat.{tablesFrom}
 
 -- the octets of a profile's header and fixed fields
@@ -26,6 +27,12 @@ entrySize p = fixedSize (p .body) + bodyView (p .body) .len
 -- the used entries of a lent table
 abbrev pub usedIn : List ℕ → Used
 usedIn t = usedOf (tablesFrom t)
+
+-- the sums of the profiles' counts
+abbrev pub sumsOf : List ℕ → Counts
+sumsOf t =
+    let ps = usedIn t .profiles in
+    record { taps = counted tapsIn ps; names = counted namesIn ps; extras = counted extrasIn ps }
 
 -- each entry checked and their sizes summed
 abbrev pub measuredEach : {A : Type 0} → (A → Check) → (A → ℕ) → List A → Told

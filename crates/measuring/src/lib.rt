@@ -6,10 +6,13 @@ ghost use lib.ListN.{length, getD};
 ghost use Rattle.octets.specs.Octets.{part};
 ghost use Rattle.reference.specs.declared.Check.the-variants.{Pass};
 ghost use Rattle.reference.specs.Checks.{both, each, sum};
-ghost use Rattle.reference.specs.Tables.{tapsIn, namesIn, extrasIn, usedOf, ownedOf};
-ghost use Rattle.reference.specs.Writer.{tapSize, nameSize, extraSize, sizeOf, usedCheck, sumCheck, counted, countsCheck, viewCheck, entryViews, tapViews, nameViews, extraViews, viewsCheck, shortCheck, extraShort, bodyShort, ownShort, measureCheck, told, measured};
+ghost use Rattle.reference.specs.Tables.{usedOf, ownedOf};
+ghost use Rattle.reference.specs.Writer.{tapSize, nameSize, extraSize, sizeOf, told, measured};
+ghost use Rattle.reference.specs.Writer.{usedCheck, sumCheck, countsCheck, viewCheck, entryViews, tapViews, nameViews, extraViews, viewsCheck};
+ghost use Rattle.reference.specs.Writer.{shortCheck, extraShort, ownShort, measureCheck};
 ghost use Rattle.table.specs.Flat.{tablesFrom, bodyOfTable};
-ghost use Rattle.measuring.specs.ByTable.{fixedSize, entrySize, usedIn, measuredEach, countOf, added};
+ghost use Rattle.measuring.specs.ByTable.{fixedSize, entrySize, usedIn, sumsOf, measuredEach, countOf, added};
+ghost use Rattle.measuring.specs.Short.{shortHere, Within};
 use entries::extra_at;
 use entries::extras_at;
 use entries::name_at;
@@ -38,6 +41,42 @@ use table::BIOP;
 use table::Counts;
 use table::LITE_OPTIONS;
 
+// The places of the tables in a refusal.
+const PLACE_TYPE_ID: u8 = 0;
+
+const PLACE_PROFILES: u8 = 40;
+
+const PLACE_TAPS: u8 = 41;
+
+const PLACE_NAMES: u8 = 42;
+
+const PLACE_EXTRAS: u8 = 43;
+
+// The octets of an entry's fixed fields. Front: the type id's length and the profile count; tap: id, use, association, selector length; name: both
+// lengths; extra: tag and length.
+const FRONT_FIXED: usize = 8;
+
+const TAP_FIXED: usize = 7;
+
+const NAME_FIXED: usize = 8;
+
+const EXTRA_FIXED: usize = 5;
+
+// A profile: its header; of BIOP also order octet, component count, both component headers and their fixed fields; of LiteOptions order octet,
+// component count, component header, address, name count and context length.
+const OPAQUE_FIXED: usize = 8;
+
+const BIOP_FIXED: usize = 30;
+
+const LITE_FIXED: usize = 47;
+
+// Inside a component with a length of one octet: ObjectLocation without its key, ConnBinder without its taps, and the most that it may hold.
+const LOCATION_FIXED: usize = 9;
+
+const BINDER_FIXED: usize = 1;
+
+const LONGEST: usize = 255;
+
 // The second check counts only if the first passes.
 fn then(first: Check, second: Check) -> Check
     ensures { λ r. ⌜ r ≡ both first second ⌝ }
@@ -51,7 +90,7 @@ fn then(first: Check, second: Check) -> Check
 // 8: the sums of the profiles' counts. Eight counts of 32 bits never wrap.
 fn sum_counts(t: &[u32]) -> Counts
     requires { ⌜ (length (now t) ≡ 490) × (getD (now t) 2 0 ≤ 8) ⌝ }
-    ensures { λ r. ⌜ r ≡ record { taps = counted tapsIn (usedIn (now (t .entry)) .profiles); names = counted namesIn (usedIn (now (t .entry)) .profiles); extras = counted extrasIn (usedIn (now (t .entry)) .profiles) } ⌝ }
+    ensures { λ r. ⌜ r ≡ sumsOf (now (t .entry)) ⌝ }
 {
     let used = t[2] as usize;
     let mut taps: usize = 0;
@@ -89,12 +128,12 @@ fn check_counts(t: &[u32]) -> Check
     ensures { λ r. ⌜ r ≡ countsCheck (tablesFrom (now (t .entry))) ⌝ }
 {
     if PROFILES < t[2] as usize {
-        return Check::Refuse(wrong(8, 40));
+        return Check::Refuse(wrong(8, PLACE_PROFILES));
     }
     let sums = sum_counts(t);
-    let taps = check_used(t[3] as usize, TAPS, sums.taps, 41);
-    let names = check_used(t[4] as usize, NAMES, sums.names, 42);
-    let extras = check_used(t[5] as usize, EXTRAS, sums.extras, 43);
+    let taps = check_used(t[3] as usize, TAPS, sums.taps, PLACE_TAPS);
+    let names = check_used(t[4] as usize, NAMES, sums.names, PLACE_NAMES);
+    let extras = check_used(t[5] as usize, EXTRAS, sums.extras, PLACE_EXTRAS);
     then(taps, then(names, extras))
 }
 
@@ -113,8 +152,8 @@ fn check_name(name: NameComponent, n: usize) -> Check
 {
     let v = name.id;
     let w = name.kind;
-    let id = check_view(v, n, 42);
-    let kind = check_view(w, n, 42);
+    let id = check_view(v, n, PLACE_NAMES);
+    let kind = check_view(w, n, PLACE_NAMES);
     then(id, kind)
 }
 
@@ -122,19 +161,19 @@ fn check_name(name: NameComponent, n: usize) -> Check
 fn tap_size(tap: Tap) -> usize
     ensures { λ r. ⌜ (r ≡ tapSize tap) × (r < 0x200000000) ⌝ }
 {
-    7 + tap.selector.len as usize
+    TAP_FIXED + tap.selector.len as usize
 }
 
 fn name_size(name: NameComponent) -> usize
     ensures { λ r. ⌜ (r ≡ nameSize name) × (r < 0x300000000) ⌝ }
 {
-    8 + name.id.len as usize + name.kind.len as usize
+    NAME_FIXED + name.id.len as usize + name.kind.len as usize
 }
 
 fn extra_size(extra: LiteComponent) -> usize
     ensures { λ r. ⌜ (r ≡ extraSize extra) × (r < 0x200000000) ⌝ }
 {
-    5 + extra.data.len as usize
+    EXTRA_FIXED + extra.data.len as usize
 }
 
 // The octets of a profile's header and fixed fields.
@@ -144,12 +183,12 @@ fn fixed_size(t: &[u32], i: usize) -> usize
 {
     let sort = sort_at(t, i);
     if sort == BIOP {
-        return 30;
+        return BIOP_FIXED;
     }
     if sort == LITE_OPTIONS {
-        return 47;
+        return LITE_FIXED;
     }
-    8
+    OPAQUE_FIXED
 }
 
 // 9 for the views of each table, and the octets of its entries.
@@ -162,7 +201,7 @@ fn measure_profiles(t: &[u32], n: usize) -> Answer
     let mut i: usize = 0;
     while i < used {
         let v = profile_view(t, i);
-        let found = check_view(v, n, 40);
+        let found = check_view(v, n, PLACE_PROFILES);
         if let Check::Refuse(r) = found {
             return Answer::Refused(r);
         }
@@ -182,7 +221,7 @@ fn measure_taps(t: &[u32], n: usize) -> Answer
     while i < used {
         let tap = tap_at(t, i);
         let v = tap.selector;
-        let found = check_view(v, n, 41);
+        let found = check_view(v, n, PLACE_TAPS);
         if let Check::Refuse(r) = found {
             return Answer::Refused(r);
         }
@@ -221,7 +260,7 @@ fn measure_extras(t: &[u32], n: usize) -> Answer
     while i < used {
         let extra = extra_at(t, i);
         let v = extra.data;
-        let found = check_view(v, n, 43);
+        let found = check_view(v, n, PLACE_EXTRAS);
         if let Check::Refuse(r) = found {
             return Answer::Refused(r);
         }
@@ -237,11 +276,11 @@ fn measure_front(t: &[u32], n: usize) -> Answer
     ensures { λ r. ⌜ (r ≡ told (viewCheck n 0 (usedIn (now (t .entry)) .typeId)) (8 + usedIn (now (t .entry)) .typeId .len)) × (countOf r < 0x10000000000) ⌝ }
 {
     let v = view_at(t, 0);
-    let found = check_view(v, n, 0);
+    let found = check_view(v, n, PLACE_TYPE_ID);
     if let Check::Refuse(r) = found {
         return Answer::Refused(r);
     }
-    Answer::Count(8 + v.len as usize)
+    Answer::Count(FRONT_FIXED + v.len as usize)
 }
 
 // Two sums together; the first refusal decides.
@@ -309,8 +348,8 @@ pub fn length_from(t: &[u32], src: &[u8]) -> Answer
 fn check_short(size: usize) -> Check
     ensures { λ r. ⌜ r ≡ shortCheck size ⌝ }
 {
-    if 255 < size {
-        return Check::Refuse(too_long(size, 255));
+    if LONGEST < size {
+        return Check::Refuse(too_long(size, LONGEST));
     }
     Check::Pass
 }
@@ -351,16 +390,16 @@ fn check_extras(t: &[u32], first: usize, count: usize) -> Check
 
 // 2 for profile i, whose taps and extras begin at `tap` and `extra`: ObjectLocation, ConnBinder, extras.
 fn check_profile(t: &[u32], i: usize, tap: usize, extra: usize) -> Check
-    requires { ⌜ (length (now t) ≡ 490) × (i < 8) × (getD (now t) 3 0 ≤ 36) × (getD (now t) 5 0 ≤ 32) × (tap + tapsIn (bodyOfTable (now t) i) ≤ getD (now t) 3 0) × (extra + extrasIn (bodyOfTable (now t) i) ≤ getD (now t) 5 0) ⌝ }
-    ensures { λ r. ⌜ r ≡ bodyShort (bodyOfTable (now (t .entry)) i) (part (usedIn (now (t .entry)) .taps) tap (tapsIn (bodyOfTable (now (t .entry)) i))) (part (usedIn (now (t .entry)) .extras) extra (extrasIn (bodyOfTable (now (t .entry)) i))) ⌝ }
+    requires { ⌜ Within (now t) i tap extra ⌝ }
+    ensures { λ r. ⌜ r ≡ shortHere (now (t .entry)) i tap extra ⌝ }
 {
     let extras = check_extras(t, extra, extras_at(t, i));
     if sort_at(t, i) != BIOP {
         return extras;
     }
     let key = profile_view(t, i);
-    let location = check_short(9 + key.len as usize);
-    let binder = check_short(1 + taps_size(t, tap, taps_at(t, i)));
+    let location = check_short(LOCATION_FIXED + key.len as usize);
+    let binder = check_short(BINDER_FIXED + taps_size(t, tap, taps_at(t, i)));
     then(location, then(binder, extras))
 }
 

@@ -60,12 +60,13 @@ then-requires-2 c κs = search needs
 
 returns-2 : tie.Need-returns-2
 returns-2 c =
-    let sums = c .before .before .before .before .before .before .before .before .sum-counts in
-    let t = c .before .before .before .before .before .before .before .before .before .before .before .before .args .t .now in
-    let taps = c .before .before .before .before .before .before .check-used .ensures in
-    let names = c .before .before .before .before .check-used2 .ensures in
-    let extras = c .before .before .check-used3 .ensures in
-    c .then2 .ensures ∙ ap₂ both taps (c .before .then .ensures ∙ ap₂ both names extras) ∙ table-by-table t (c .before .before .before .before .before .before .before .before .before .if1 .left) (sums .result) (sums .ensures)
+    let names = c .before .before .before .before in
+    let taps = names .before .before in
+    let sums = taps .before .before .sum-counts in
+    let few = taps .before .before .before in
+    let t = few .before .before .before .args .t .now in
+    let behind = c .before .then .ensures ∙ ap₂ both (names .check-used2 .ensures) (c .before .before .check-used3 .ensures) in
+    c .then2 .ensures ∙ ap₂ both (taps .check-used .ensures) behind ∙ table-by-table t (few .if1 .left) (sums .result) (sums .ensures)
 
 pub check-counts-spec : {M : Type 1} → statement M
 check-counts-spec =

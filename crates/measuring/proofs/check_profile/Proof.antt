@@ -62,14 +62,19 @@ then-requires-2 c κs = search needs
 
 returns-2 : tie.Need-returns-2
 returns-2 c =
-    let a = c .before .before .before .before .before .before .before .before .before .before .before .before .before .args in
+    let size = c .before .before .before in
+    let k = size .before .before in
+    let v = k .before .before in
+    let b = v .before in
+    let x = b .before .before in
+    let a = x .before .before .before .args in
     let t = a .t .now in
     let u = usedIn t in
-    let sort = sym (c .before .before .before .before .before .before .before .before .before .sort-at .ensures) ∙ c .before .before .before .before .before .before .before .before .if1 .left in
-    let extras = c .before .before .before .before .before .before .before .before .before .before .check-extras .ensures ∙ ap (λ (k : ℕ). each extraShort (part (u .extras) (a .extra) k)) (c .before .before .before .before .before .before .before .before .before .before .before .extras-at .ensures .0) in
-    let location = c .before .before .before .before .before .check-short .ensures ∙ ap (λ (v : View). shortCheck (9 + v .len)) (c .before .before .before .before .before .before .before .profile-view .ensures) in
-    let size = c .before .before .before .taps-size .ensures .0 ∙ ap (λ (k : ℕ). sum tapSize (part (u .taps) (a .tap) k)) (c .before .before .before .before .taps-at .ensures .0) in
-    let binder = c .before .before .check-short2 .ensures ∙ ap (λ (k : ℕ). shortCheck (1 + k)) size in
+    let sort = sym (b .before .sort-at .ensures) ∙ b .if1 .left in
+    let extras = x .check-extras .ensures ∙ ap (λ (n : ℕ). each extraShort (part (u .extras) (a .extra) n)) (x .before .extras-at .ensures .0) in
+    let location = k .check-short .ensures ∙ ap (λ (y : View). shortCheck (9 + y .len)) (v .profile-view .ensures) in
+    let taps = size .taps-size .ensures .0 ∙ ap (λ (n : ℕ). sum tapSize (part (u .taps) (a .tap) n)) (size .before .taps-at .ensures .0) in
+    let binder = c .before .before .check-short2 .ensures ∙ ap (λ (n : ℕ). shortCheck (1 + n)) taps in
     c .then2 .ensures
     ∙ ap₂ both location (c .before .then .ensures ∙ ap₂ both binder extras)
     ∙ short-biop (u .taps) (u .extras) (a .tap) (a .extra) (part t (6 + 10 * a .i) 10) sort

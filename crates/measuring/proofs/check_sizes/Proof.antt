@@ -6,7 +6,7 @@ use native.Mathlib.Omega.{arith}
 use lib.ListN.{getD}
 use Rattle.reference.proofs.Checks.{passed}
 use Rattle.measuring.proofs.Tables.{agreeing}
-use Rattle.measuring.proofs.Short.{Passed, passed-begin, passed-end, passed-turn, passed-stop, taps-fit, extras-fit}
+use Rattle.measuring.proofs.Short.{Passed, passed-begin, passed-end, passed-turn, passed-stop, passed-within}
 use Rattle.measuring.proofs.check_sizes.Statement.{statement}
 use Rattle.measuring.proofs.check_sizes.Tie as tie
 
@@ -31,8 +31,7 @@ check-profile-requires : tie.Need-check-profile-requires Inv-loop μ-loop
 check-profile-requires c κs =
     let l = c .before in
     let s = l .before .before .before in
-    let g = agreeing (s .args .t .now) (s .pre .1) in
-    (s .pre .0, omega arith, g .taps, g .extras, taps-fit g (l .loop .inv .5) (omega arith), extras-fit g (l .loop .inv .5) (omega arith))
+    passed-within (agreeing (s .args .t .now) (s .pre .1)) (l .loop .inv .5) (omega arith) (s .pre .0)
 
 enum-known-found : tie.Need-enum-known-found Inv-loop μ-loop
 enum-known-found c = search needs

@@ -42,7 +42,9 @@ returns c =
     let e = k .before .before in
     let l = e .before .before in
     let s = l .before .before .before in
-    (measure-stop (l .loop .inv .3) (extras-listed (s .args .t .now) (omega arith)) (omega arith) _ (e .extra-at .ensures) (sym (k .check-view .ensures) ∙ c .before .found .given .1), omega arith)
+    let extras = extras-listed (s .args .t .now) (omega arith) in
+    let stops = sym (k .check-view .ensures) ∙ c .before .found .given .1 in
+    (measure-stop (l .loop .inv .3) extras (omega arith) _ (e .extra-at .ensures) stops, omega arith)
 
 enum-told : tie.Need-enum-told Inv-loop μ-loop
 enum-told c = search needs

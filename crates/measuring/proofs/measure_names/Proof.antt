@@ -42,7 +42,9 @@ returns c =
     let e = k .before in
     let l = e .before .before in
     let s = l .before .before .before in
-    (measure-stop (l .loop .inv .3) (names-listed (s .args .t .now) (omega arith)) (omega arith) _ (e .name-at .ensures) (sym (k .check-name .ensures) ∙ c .before .found .given .1), omega arith)
+    let names = names-listed (s .args .t .now) (omega arith) in
+    let stops = sym (k .check-name .ensures) ∙ c .before .found .given .1 in
+    (measure-stop (l .loop .inv .3) names (omega arith) _ (e .name-at .ensures) stops, omega arith)
 
 enum-told : tie.Need-enum-told Inv-loop μ-loop
 enum-told c = search needs

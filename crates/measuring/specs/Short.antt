@@ -1,0 +1,31 @@
+-- Check 2 of one profile of a lent table, whose taps and extras begin at given entries. Assumes nothing.
+use Prim.Native.Nat.{ℕ, _+_, _<_, _≤_}
+use mathlib.Core.Path.{_≡_}
+use mathlib.Core.List.{List}
+use lib.ListN.{length, getD}
+use Rattle.octets.specs.Octets.{part}
+use Rattle.reference.specs.declared.Tap.{Tap}
+use Rattle.reference.specs.declared.LiteComponent.{LiteComponent}
+use Rattle.reference.specs.declared.TaggedProfile.{TaggedProfile}
+use Rattle.reference.specs.declared.Check.{Check}
+use Rattle.reference.specs.Tables.{tapsIn, extrasIn}
+use Rattle.reference.specs.Writer.{bodyShort}
+use Rattle.table.specs.Flat.{bodyOfTable}
+use Rattle.measuring.specs.ByTable.{usedIn}
+
+-- of a profile with its entries among those of the tables
+abbrev pub shortAt : List Tap → List LiteComponent → ℕ → ℕ → TaggedProfile → Check
+shortAt ts es tap extra b = bodyShort b (part ts tap (tapsIn b)) (part es extra (extrasIn b))
+
+-- of profile i
+abbrev pub shortHere : List ℕ → ℕ → ℕ → ℕ → Check
+shortHere t i tap extra = shortAt (usedIn t .taps) (usedIn t .extras) tap extra (bodyOfTable t i)
+
+-- the entries of profile i lie within the used ones
+pub record Within (t : List ℕ) (i tap extra : ℕ) : Type 0 where
+  pub numbers : length t ≡ 490
+  pub profile : i < 8
+  pub taps : getD t 3 0 ≤ 36
+  pub extras : getD t 5 0 ≤ 32
+  pub tapsWithin : tap + tapsIn (bodyOfTable t i) ≤ getD t 3 0
+  pub extrasWithin : extra + extrasIn (bodyOfTable t i) ≤ getD t 5 0
