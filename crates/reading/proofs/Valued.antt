@@ -1,0 +1,45 @@
+-- The reading by value is the reading into a table of zeros. Assumes nothing.
+use Prim.Native.Nat.{ℕ, _≤_}
+use mathlib.Core.Path.{_≡_, refl, ap, _∙_}
+use mathlib.Core.List.{List}
+use lib.Dec.{ltb, nltb→le}
+use lib.ListN.{length, replicate}
+use Rattle.octets.specs.Octets.{Octets}
+use Rattle.reference.specs.declared.Tables.{Tables}
+use Rattle.reference.specs.declared.Reading.{Reading}
+use Rattle.reference.specs.declared.Answer.{Answer as Told}
+use Rattle.reference.specs.Meaning.{Reference, Room}
+use Rattle.reference.specs.Layout.{WellFormed}
+use Rattle.reference.specs.Reader.{Answer, ok, refused, refusal, readLeading, readWhole}
+use Rattle.reference.specs.Writer.{answered}
+use Rattle.reference.proofs.Laws.{guard-ok}
+use Rattle.reference.proofs.Accept.{only-accepted, whole}
+use Rattle.table.specs.Flat.{tablesFrom}
+use Rattle.by_value.proofs.Accepted.{tables-read}
+use Rattle.by_value.proofs.Back.{tables-cleared}
+use Rattle.reading.specs.Into.{tableLeft, ReadInto}
+
+-- ---- what was accepted is well formed and fits
+
+pub leading-good : (d : List ℕ) → Octets d → (m : Reference) (n : ℕ) → readLeading d ≡ ok m n → (WellFormed m) × (Room m)
+leading-good d o m n e = let l = only-accepted d o m n e .1 in (l .formed, l .room)
+
+whole-small : (d : List ℕ) (m : Reference) (n : ℕ) → readWhole d ≡ ok m n → length d ≤ 65535
+unfolding readWhole
+whole-small d m n e = nltb→le 65535 (length d) (guard-ok (ltb 65535 (length d)) (refusal 6 0 (length d) 65535) _ e .0)
+
+pub whole-good : (d : List ℕ) → Octets d → (m : Reference) (n : ℕ) → readWhole d ≡ ok m n → (WellFormed m) × (Room m)
+whole-good d o m n e = let l = whole d o (whole-small d m n e) m n .0 e .0 in (l .formed, l .room)
+
+-- ---- the tables
+
+-- what an answer leaves in a table of zeros, as a struct
+left-tables : (x : Answer Reference) → ((m : Reference) (n : ℕ) → x ≡ ok m n → (WellFormed m) × (Room m)) → tablesFrom (tableLeft x (replicate 490 0)) ≡ answered x .tables
+left-tables (ok m n) good = let g = good m n refl in tables-read m (g .1) (g .0)
+left-tables (refused y) good = tables-cleared
+
+pub valued : (x : Answer Reference) → ((m : Reference) (n : ℕ) → x ≡ ok m n → (WellFormed m) × (Room m)) → {e : List ℕ} {r : Told} {t : Tables} → ReadInto x (replicate 490 0) e r → t ≡ tablesFrom e
+    → _≡_ {A = Reading} (record { answer = r; tables = t }) (answered x)
+valued x good {e} {r} {t} h q =
+    let p = q ∙ ap tablesFrom (h .leaves) ∙ left-tables x good in
+    λ j. record { answer = h .answers j; tables = p j }

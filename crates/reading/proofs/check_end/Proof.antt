@@ -1,0 +1,35 @@
+-- `reading::check_end` meets its contract. Leftover octets are looked for before the room. Assumes nothing.
+use mathlib.Core.Path.{ap, _∙_}
+use mathlib.Core.Logic.{⊎-elim}
+use borrow.Author.Needs.{needs}
+use borrow.Author.Tests.{not-true, not-false}
+use lib.Dec.{eqb}
+use Rattle.reference.specs.declared.Check.the-variants.{Refuse}
+use Rattle.reading.specs.Open.{endCheck}
+use Rattle.reading.proofs.check_end.Statement.{statement}
+use Rattle.reading.proofs.check_end.Tie as tie
+
+sub-left-over : tie.Need-sub-left-over
+sub-left-over c = search needs
+
+left-over-requires : tie.Need-left-over-requires
+left-over-requires c κs = search needs
+
+returns : tie.Need-returns
+unfolding endCheck
+returns c =
+    let a = c .before .before .before .args in
+    ap (λ x. Refuse x) (c .left-over .ensures) ∙ simp (c .before .before .if1 .taken, not-true (eqb (a .next) (a .end)) (c .before .if2 .taken))
+
+check-room-requires : tie.Need-check-room-requires
+check-room-requires c κs = search needs
+
+returns-2 : tie.Need-returns-2
+unfolding endCheck
+returns-2 c =
+    let a = c .before .before .args in
+    ⊎-elim (λ w. c .check-room .ensures ∙ simp (w .0 .taken, not-false (eqb (a .next) (a .end)) (w .1 .left))) (λ w. c .check-room .ensures ∙ simp (w .left)) (c .before .if1 .came)
+
+pub check-end-spec : {M : Type 1} → statement M
+check-end-spec =
+    tie.close (tie.spec sub-left-over left-over-requires returns check-room-requires returns-2)

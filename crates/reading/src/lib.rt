@@ -1,0 +1,317 @@
+// Reads a leading reference, or a whole slice, into a lent table of 490 numbers and by value. Figures count from the start of the slice,
+// inside a profile from the start of its data; views always count from the start of the caller's slice.
+ghost use mathlib.Core.Path.{_≡_};
+ghost use Prim.Native.Nat.{_+_, _≤_};
+ghost use lib.ListN.{length};
+ghost use Rattle.octets.specs.Octets.{splice};
+ghost use Rattle.reference.specs.Reader.{seen, many, readProfile, readLeading, readWhole};
+ghost use Rattle.reference.specs.Writer.{answered};
+ghost use Rattle.table.specs.Flat.{frontNumbers};
+ghost use Rattle.components.specs.Told.{StoresBody};
+ghost use Rattle.reading.specs.Open.{readHeader, headerTold, opening, headSeen, headTold, roomCheck, endCheck, readBody, readAs};
+ghost use Rattle.reading.specs.Into.{StoresProfiles, Closes, StoresReference, ReadInto};
+use biop::read_biop;
+use by_value::tables_of;
+use components::BodyRead;
+use lite_options::read_lite;
+use octets::be32;
+use reference::Answer;
+use reference::Check;
+use reference::EXTRAS;
+use reference::MOST;
+use reference::NAMES;
+use reference::PROFILES;
+use reference::Reading;
+use reference::Refusal;
+use reference::TAG_BIOP;
+use reference::TAG_LITE_OPTIONS;
+use reference::TAPS;
+use reference::View;
+use reference::cut;
+use reference::left_over;
+use reference::too_large;
+use reference::too_long;
+use reference::too_many;
+use reference::view_of;
+use reference::wrong;
+use table::Counts;
+use table::clear;
+use table::put_front;
+use table::put_opaque;
+
+// The header of a profile: its tag, and where its data ends; the data begins eight octets behind `pos`.
+enum HeaderRead {
+    Got { tag: u32, next: usize },
+    Not { why: Refusal },
+}
+
+fn read_header(d: &[u8], pos: usize) -> HeaderRead
+    requires { ⌜ (pos ≤ length (now d)) × (length (now d) ≤ 65535) ⌝ }
+    ensures { λ r. ⌜ headerTold r ≡ readHeader (now (d .entry)) pos (length (now (d .entry))) ⌝ }
+{
+    let end = d.len();
+    let data = pos + 8;
+    if end < data {
+        return HeaderRead::Not {
+            why: cut(3, data, end),
+        };
+    }
+    let tag = be32(d, pos);
+    let len = be32(d, pos + 4) as usize;
+    if end - data < len {
+        return HeaderRead::Not {
+            why: too_long(len, end - data),
+        };
+    }
+    HeaderRead::Got {
+        tag,
+        next: data + len,
+    }
+}
+
+// What stands before the profiles: the type id, how many profiles follow and where the first one stands.
+enum HeadRead {
+    Got {
+        type_id: View,
+        count: usize,
+        next: usize,
+    },
+    Not {
+        why: Refusal,
+    },
+}
+
+fn read_head(d: &[u8]) -> HeadRead
+    ensures { λ r. ⌜ headTold r ≡ seen headSeen (opening (now (d .entry))) ⌝ }
+{
+    let end = d.len();
+    if MOST < end {
+        return HeadRead::Not {
+            why: too_large(6, end),
+        };
+    }
+    if end < 8 {
+        return HeadRead::Not {
+            why: cut(1, 8, end),
+        };
+    }
+    let len = be32(d, 0) as usize;
+    if len % 4 != 0 {
+        return HeadRead::Not { why: wrong(4, 33) };
+    }
+    if end - 4 < len {
+        return HeadRead::Not {
+            why: too_long(len, end - 4),
+        };
+    }
+    let pos = 4 + len;
+    let first = pos + 4;
+    if end < first {
+        return HeadRead::Not {
+            why: cut(2, first, end),
+        };
+    }
+    HeadRead::Got {
+        type_id: view_of(0, 4, len),
+        count: be32(d, pos) as usize,
+        next: first,
+    }
+}
+
+// 7 for the first of profiles, taps, names, extras that does not fit.
+fn check_room(profiles: usize, taps: usize, names: usize, extras: usize) -> Check
+    ensures { λ r. ⌜ r ≡ roomCheck profiles taps names extras ⌝ }
+{
+    if PROFILES < profiles {
+        return Check::Refuse(too_many(40, profiles, PROFILES));
+    }
+    if TAPS < taps {
+        return Check::Refuse(too_many(41, taps, TAPS));
+    }
+    if NAMES < names {
+        return Check::Refuse(too_many(42, names, NAMES));
+    }
+    if EXTRAS < extras {
+        return Check::Refuse(too_many(43, extras, EXTRAS));
+    }
+    Check::Pass
+}
+
+// Behind the profiles: of the whole slice nothing may be left over; 7 comes after that.
+fn check_end(
+    whole: bool,
+    next: usize,
+    end: usize,
+    profiles: usize,
+    taps: usize,
+    names: usize,
+    extras: usize,
+) -> Check
+    requires { ⌜ next ≤ end ⌝ }
+    ensures { λ r. ⌜ r ≡ endCheck whole next end profiles taps names extras ⌝ }
+{
+    if whole && next != end {
+        return Check::Refuse(left_over(4, end - next));
+    }
+    check_room(profiles, taps, names, extras)
+}
+
+// The data of a profile whose header stands at `at`: it becomes profile i of the table, if there is room.
+fn read_body(d: &[u8], at: usize, tag: u32, table: &mut [u32], i: usize, used: Counts) -> BodyRead
+    requires { ⌜ (at + 8 + length (now d) ≤ 65535) × (used .taps ≤ 65535) × (used .names ≤ 65535) × (used .extras ≤ 65535) × (length (now table) ≡ 490) ⌝ }
+    ensures { λ r. ⌜ StoresBody at (now (table .entry)) i used (readBody tag (now (d .entry))) (length (now (d .entry))) (now (table .exit)) r ⌝ }
+{
+    if tag == TAG_BIOP {
+        return read_biop(d, at, table, i, used);
+    }
+    if tag == TAG_LITE_OPTIONS {
+        return read_lite(d, at, table, i, used);
+    }
+    if i < PROFILES {
+        put_opaque(tag, view_of(at, 8, d.len()), table, i);
+    }
+    BodyRead::Got { used }
+}
+
+// n profiles: the used counts and the next position.
+enum ProfilesRead {
+    Got { used: Counts, next: usize },
+    Not { why: Refusal },
+}
+
+fn read_profiles(d: &[u8], pos: usize, n: usize, table: &mut [u32]) -> ProfilesRead
+    requires { ⌜ (pos ≤ length (now d)) × (length (now d) ≤ 65535) × (length (now table) ≡ 490) ⌝ }
+    ensures { λ r. ⌜ StoresProfiles pos (now (table .entry)) (many n readProfile (now (d .entry)) pos (length (now (d .entry)))) (now (table .exit)) r ⌝ }
+{
+    let mut used = Counts {
+        taps: 0,
+        names: 0,
+        extras: 0,
+    };
+    let mut cur = pos;
+    let mut i: usize = 0;
+    while i < n {
+        match read_header(d, cur) {
+            HeaderRead::Not { why } => {
+                return ProfilesRead::Not { why };
+            }
+            HeaderRead::Got { tag, next } => {
+                let data = cur + 8;
+                match read_body(&d[data..next], cur, tag, table, i, used) {
+                    BodyRead::Not { why: wrong } => {
+                        return ProfilesRead::Not { why: wrong };
+                    }
+                    BodyRead::Got { used: after } => {
+                        used = after;
+                        cur = next;
+                    }
+                }
+            }
+        }
+        i += 1;
+    }
+    ProfilesRead::Got { used, next: cur }
+}
+
+// Behind the profiles: the checks, and then the six numbers at the front.
+fn finish(
+    d: &[u8],
+    whole: bool,
+    type_id: View,
+    count: usize,
+    last: usize,
+    used: Counts,
+    table: &mut [u32],
+) -> Answer
+    requires { ⌜ (last ≤ length (now d)) × (length (now table) ≡ 490) ⌝ }
+    ensures { λ r. ⌜ Closes (endCheck whole last (length (now (d .entry))) count (used .taps) (used .names) (used .extras)) (splice (now (table .entry)) 0 (frontNumbers «type_id» count (used .taps) (used .names) (used .extras))) last (now (table .exit)) r ⌝ }
+{
+    let taps = used.taps;
+    let names = used.names;
+    let extras = used.extras;
+    match check_end(whole, last, d.len(), count, taps, names, extras) {
+        Check::Refuse(why) => Answer::Refused(why),
+        Check::Pass => {
+            put_front(
+                type_id,
+                count as u32,
+                taps as u32,
+                names as u32,
+                extras as u32,
+                table,
+            );
+            Answer::Count(last)
+        }
+    }
+}
+
+// The reference at the start of d; `whole`: nothing may be left over. Of a refused reading the table is open.
+fn read_reference(d: &[u8], whole: bool, table: &mut [u32]) -> Answer
+    requires { ⌜ length (now table) ≡ 490 ⌝ }
+    ensures { λ r. ⌜ StoresReference (readAs whole (now (d .entry))) (now (table .entry)) (now (table .exit)) r ⌝ }
+{
+    match read_head(d) {
+        HeadRead::Not { why } => Answer::Refused(why),
+        HeadRead::Got {
+            type_id,
+            count,
+            next,
+        } => match read_profiles(d, next, count, table) {
+            ProfilesRead::Not { why: fault } => Answer::Refused(fault),
+            ProfilesRead::Got { used, next: last } => {
+                finish(d, whole, type_id, count, last, used, table)
+            }
+        },
+    }
+}
+
+// A refused reading leaves empty tables.
+fn read_or_clear(d: &[u8], whole: bool, table: &mut [u32]) -> Answer
+    requires { ⌜ length (now table) ≡ 490 ⌝ }
+    ensures { λ r. ⌜ ReadInto (readAs whole (now (d .entry))) (now (table .entry)) (now (table .exit)) r ⌝ }
+{
+    match read_reference(d, whole, table) {
+        Answer::Count(n) => Answer::Count(n),
+        Answer::Refused(why) => {
+            clear(table);
+            Answer::Refused(why)
+        }
+    }
+}
+
+// A leading reference into a lent table of 490 numbers: octets consumed, or the refusal. An accepted reading keeps what stands behind the
+// entries it fills, a refused one leaves zeros.
+pub fn read_leading_into(d: &[u8], table: &mut [u32]) -> Answer
+    requires { ⌜ length (now table) ≡ 490 ⌝ }
+    ensures { λ r. ⌜ ReadInto (readLeading (now (d .entry))) (now (table .entry)) (now (table .exit)) r ⌝ }
+{
+    read_or_clear(d, false, table)
+}
+
+// The same of a whole slice: nothing may be left over.
+pub fn read_whole_into(d: &[u8], table: &mut [u32]) -> Answer
+    requires { ⌜ length (now table) ≡ 490 ⌝ }
+    ensures { λ r. ⌜ ReadInto (readWhole (now (d .entry))) (now (table .entry)) (now (table .exit)) r ⌝ }
+{
+    read_or_clear(d, true, table)
+}
+
+// A leading reference by value: octets consumed and the tables, or the refusal and empty tables.
+pub fn read_leading(d: &[u8]) -> Reading
+    ensures { λ r. ⌜ r ≡ answered (readLeading (now (d .entry))) ⌝ }
+{
+    let mut table = [0u32; 490];
+    let answer = read_leading_into(d, &mut table);
+    let tables = tables_of(&table);
+    Reading { answer, tables }
+}
+
+// The same of a whole slice: nothing may be left over.
+pub fn read_whole(d: &[u8]) -> Reading
+    ensures { λ r. ⌜ r ≡ answered (readWhole (now (d .entry))) ⌝ }
+{
+    let mut table = [0u32; 490];
+    let answer = read_whole_into(d, &mut table);
+    let tables = tables_of(&table);
+    Reading { answer, tables }
+}
