@@ -1,0 +1,292 @@
+// The profiles of a reference's image, from a lent table. A writer stores at `at` and answers the position after what it stored; a header is
+// stored after what it stands before: by then its length is known, and no size is summed twice.
+ghost use mathlib.Core.Path.{_≡_};
+ghost use mathlib.Core.List.{List, [], _∷_, map};
+ghost use Prim.Native.Nat.{_+_, _≤_, _<_};
+ghost use lib.ListN.{length};
+ghost use Rattle.octets.specs.Octets.{Each, joined};
+ghost use Rattle.octets.specs.Put.{Put};
+ghost use Rattle.reference.specs.declared.TaggedProfile.the-variants as Sort;
+ghost use Rattle.reference.specs.Layout.{tagged, tag-binder, tag-service, layoutTap, layoutName, layoutExtra, layoutBinder, layoutService, layoutBiop, layoutLite, layoutProfile};
+ghost use Rattle.reference.specs.Tables.{shown, tapOf, nameOf, extraOf, locationOf, addressOf, bodyOf};
+ghost use Rattle.reference.specs.Checks.{sum};
+ghost use Rattle.reference.specs.Writer.{tapSize, nameSize, extraSize, binderSize, serviceSize, bodySize};
+ghost use Rattle.image.specs.Sound.{Within, TapSound, NameSound, ExtraSound};
+ghost use Rattle.profiles.specs.Entries.{tapsOn, namesOn, extrasOn, BinderSound, BiopSound, LiteSound};
+use entries::extra_at;
+use entries::name_at;
+use entries::tap_at;
+use image::write_address;
+use image::write_extra;
+use image::write_fixed;
+use image::write_header;
+use image::write_location;
+use image::write_long_header;
+use image::write_name;
+use image::write_run;
+use image::write_tap;
+use octets::put8;
+use octets::put32;
+use reference::NsapAddress;
+use reference::ObjectLocation;
+use reference::TAG_BIOP;
+use reference::TAG_CONN_BINDER;
+use reference::TAG_LITE_OPTIONS;
+use reference::TAG_SERVICE_LOCATION;
+use reference::View;
+
+// The entries of a table, `count` from `first` on.
+pub fn write_taps(
+    t: &[u32],
+    first: usize,
+    count: usize,
+    src: &[u8],
+    out: &mut [u8],
+    at: usize,
+) -> usize
+    requires { ⌜ (length (now t) ≡ 490) × (first + count ≤ 36) ⌝ }
+    requires { ⌜ Each (TapSound (length (now src))) (tapsOn (now t) first count) ⌝ }
+    requires { ⌜ at + sum tapSize (tapsOn (now t) first count) ≤ length (now out) ⌝ }
+    ensures { λ r. ⌜ Put (now (out .entry)) at (sum tapSize (tapsOn (now (t .entry)) first count)) (joined (map layoutTap (map (tapOf (now (src .entry))) (tapsOn (now (t .entry)) first count)))) (now (out .exit)) r ⌝ }
+{
+    let mut pos = at;
+    let mut i: usize = 0;
+    while i < count {
+        let k = first + i;
+        let tap = tap_at(t, k);
+        pos = write_tap(tap, src, out, pos);
+        i += 1;
+    }
+    pos
+}
+
+pub fn write_names(
+    t: &[u32],
+    first: usize,
+    count: usize,
+    src: &[u8],
+    out: &mut [u8],
+    at: usize,
+) -> usize
+    requires { ⌜ (length (now t) ≡ 490) × (first + count ≤ 32) ⌝ }
+    requires { ⌜ Each (NameSound (length (now src))) (namesOn (now t) first count) ⌝ }
+    requires { ⌜ at + sum nameSize (namesOn (now t) first count) ≤ length (now out) ⌝ }
+    ensures { λ r. ⌜ Put (now (out .entry)) at (sum nameSize (namesOn (now (t .entry)) first count)) (joined (map layoutName (map (nameOf (now (src .entry))) (namesOn (now (t .entry)) first count)))) (now (out .exit)) r ⌝ }
+{
+    let mut pos = at;
+    let mut i: usize = 0;
+    while i < count {
+        let k = first + i;
+        let name = name_at(t, k);
+        pos = write_name(name, src, out, pos);
+        i += 1;
+    }
+    pos
+}
+
+pub fn write_extras(
+    t: &[u32],
+    first: usize,
+    count: usize,
+    src: &[u8],
+    out: &mut [u8],
+    at: usize,
+) -> usize
+    requires { ⌜ (length (now t) ≡ 490) × (first + count ≤ 32) ⌝ }
+    requires { ⌜ Each (ExtraSound (length (now src))) (extrasOn (now t) first count) ⌝ }
+    requires { ⌜ at + sum extraSize (extrasOn (now t) first count) ≤ length (now out) ⌝ }
+    ensures { λ r. ⌜ Put (now (out .entry)) at (sum extraSize (extrasOn (now (t .entry)) first count)) (joined (map layoutExtra (map (extraOf (now (src .entry))) (extrasOn (now (t .entry)) first count)))) (now (out .exit)) r ⌝ }
+{
+    let mut pos = at;
+    let mut i: usize = 0;
+    while i < count {
+        let k = first + i;
+        let extra = extra_at(t, k);
+        pos = write_extra(extra, src, out, pos);
+        i += 1;
+    }
+    pos
+}
+
+// The ConnBinder, the whole component.
+fn write_binder(
+    t: &[u32],
+    first: usize,
+    count: usize,
+    src: &[u8],
+    out: &mut [u8],
+    at: usize,
+) -> usize
+    requires { ⌜ (length (now t) ≡ 490) × (first + count ≤ 36) ⌝ }
+    requires { ⌜ BinderSound (length (now src)) (tapsOn (now t) first count) ⌝ }
+    requires { ⌜ at + (5 + binderSize (tapsOn (now t) first count)) ≤ length (now out) ⌝ }
+    ensures { λ r. ⌜ Put (now (out .entry)) at (5 + binderSize (tapsOn (now (t .entry)) first count)) (tagged 1 tag-binder (layoutBinder (map (tapOf (now (src .entry))) (tapsOn (now (t .entry)) first count)))) (now (out .exit)) r ⌝ }
+{
+    let body = at + 5;
+    let p = put8(out, body, count as u8);
+    let end = write_taps(t, first, count, src, out, p);
+    write_header(TAG_CONN_BINDER, end - body, out, at);
+    end
+}
+
+// The data of a BIOP profile.
+fn write_biop_data(
+    location: ObjectLocation,
+    t: &[u32],
+    tap: usize,
+    taps: usize,
+    extra: usize,
+    extras: usize,
+    src: &[u8],
+    out: &mut [u8],
+    at: usize,
+) -> usize
+    requires { ⌜ (length (now t) ≡ 490) × (tap + taps ≤ 36) × (extra + extras ≤ 32) ⌝ }
+    requires { ⌜ BiopSound (length (now src)) location (tapsOn (now t) tap taps) (extrasOn (now t) extra extras) ⌝ }
+    requires { ⌜ at + bodySize (Sort.Biop location taps extras) (tapsOn (now t) tap taps) [] (extrasOn (now t) extra extras) ≤ length (now out) ⌝ }
+    ensures { λ r. ⌜ Put (now (out .entry)) at (bodySize (Sort.Biop location taps extras) (tapsOn (now (t .entry)) tap taps) [] (extrasOn (now (t .entry)) extra extras)) (layoutBiop (record { location = locationOf (now (src .entry)) location; taps = map (tapOf (now (src .entry))) (tapsOn (now (t .entry)) tap taps); extras = map (extraOf (now (src .entry))) (extrasOn (now (t .entry)) extra extras) })) (now (out .exit)) r ⌝ }
+{
+    let a = write_fixed(extras + 2, out, at);
+    let b = write_location(location, src, out, a);
+    let c = write_binder(t, tap, taps, src, out, b);
+    write_extras(t, extra, extras, src, out, c)
+}
+
+// A BIOP profile, whose taps and extras are `taps` from `tap` on and `extras` from `extra` on.
+pub fn write_biop(
+    location: ObjectLocation,
+    t: &[u32],
+    tap: usize,
+    taps: usize,
+    extra: usize,
+    extras: usize,
+    src: &[u8],
+    out: &mut [u8],
+    at: usize,
+) -> usize
+    requires { ⌜ (length (now t) ≡ 490) × (tap + taps ≤ 36) × (extra + extras ≤ 32) ⌝ }
+    requires { ⌜ BiopSound (length (now src)) location (tapsOn (now t) tap taps) (extrasOn (now t) extra extras) ⌝ }
+    requires { ⌜ bodySize (Sort.Biop location taps extras) (tapsOn (now t) tap taps) [] (extrasOn (now t) extra extras) ≤ 65535 ⌝ }
+    requires { ⌜ at + (8 + bodySize (Sort.Biop location taps extras) (tapsOn (now t) tap taps) [] (extrasOn (now t) extra extras)) ≤ length (now out) ⌝ }
+    ensures { λ r. ⌜ Put (now (out .entry)) at (8 + bodySize (Sort.Biop location taps extras) (tapsOn (now (t .entry)) tap taps) [] (extrasOn (now (t .entry)) extra extras)) (layoutProfile (bodyOf (now (src .entry)) (Sort.Biop location taps extras) (map (tapOf (now (src .entry))) (tapsOn (now (t .entry)) tap taps)) [] (map (extraOf (now (src .entry))) (extrasOn (now (t .entry)) extra extras)))) (now (out .exit)) r ⌝ }
+{
+    let body = at + 8;
+    let end = write_biop_data(location, t, tap, taps, extra, extras, src, out, body);
+    write_long_header(TAG_BIOP, end - body, out, at);
+    end
+}
+
+// The fields of a ServiceLocation.
+fn write_service_data(
+    address: NsapAddress,
+    context: View,
+    t: &[u32],
+    name: usize,
+    names: usize,
+    src: &[u8],
+    out: &mut [u8],
+    at: usize,
+) -> usize
+    requires { ⌜ (length (now t) ≡ 490) × (name + names ≤ 32) ⌝ }
+    requires { ⌜ (Each (NameSound (length (now src))) (namesOn (now t) name names)) × (Within (length (now src)) context) ⌝ }
+    requires { ⌜ at + serviceSize (namesOn (now t) name names) context ≤ length (now out) ⌝ }
+    ensures { λ r. ⌜ Put (now (out .entry)) at (serviceSize (namesOn (now (t .entry)) name names) context) (layoutService (record { address = addressOf address; names = map (nameOf (now (src .entry))) (namesOn (now (t .entry)) name names); context = shown (now (src .entry)) context })) (now (out .exit)) r ⌝ }
+{
+    let a = put8(out, at, 20);
+    let b = write_address(address, out, a);
+    let c = put32(out, b, names as u32);
+    let d = write_names(t, name, names, src, out, c);
+    write_run(context, src, out, d)
+}
+
+// The ServiceLocation, the whole component.
+fn write_service(
+    address: NsapAddress,
+    context: View,
+    t: &[u32],
+    name: usize,
+    names: usize,
+    src: &[u8],
+    out: &mut [u8],
+    at: usize,
+) -> usize
+    requires { ⌜ (length (now t) ≡ 490) × (name + names ≤ 32) ⌝ }
+    requires { ⌜ (Each (NameSound (length (now src))) (namesOn (now t) name names)) × (Within (length (now src)) context) ⌝ }
+    requires { ⌜ serviceSize (namesOn (now t) name names) context ≤ 65535 ⌝ }
+    requires { ⌜ at + (8 + serviceSize (namesOn (now t) name names) context) ≤ length (now out) ⌝ }
+    ensures { λ r. ⌜ Put (now (out .entry)) at (8 + serviceSize (namesOn (now (t .entry)) name names) context) (tagged 4 tag-service (layoutService (record { address = addressOf address; names = map (nameOf (now (src .entry))) (namesOn (now (t .entry)) name names); context = shown (now (src .entry)) context }))) (now (out .exit)) r ⌝ }
+{
+    let body = at + 8;
+    let end = write_service_data(address, context, t, name, names, src, out, body);
+    write_long_header(TAG_SERVICE_LOCATION, end - body, out, at);
+    end
+}
+
+// The data of a LiteOptions profile.
+fn write_lite_data(
+    address: NsapAddress,
+    context: View,
+    t: &[u32],
+    name: usize,
+    names: usize,
+    extra: usize,
+    extras: usize,
+    src: &[u8],
+    out: &mut [u8],
+    at: usize,
+) -> usize
+    requires { ⌜ (length (now t) ≡ 490) × (name + names ≤ 32) × (extra + extras ≤ 32) ⌝ }
+    requires { ⌜ LiteSound (length (now src)) (namesOn (now t) name names) context (extrasOn (now t) extra extras) ⌝ }
+    requires { ⌜ bodySize (Sort.LiteOptions address names context extras) [] (namesOn (now t) name names) (extrasOn (now t) extra extras) ≤ 65535 ⌝ }
+    requires { ⌜ at + bodySize (Sort.LiteOptions address names context extras) [] (namesOn (now t) name names) (extrasOn (now t) extra extras) ≤ length (now out) ⌝ }
+    ensures { λ r. ⌜ Put (now (out .entry)) at (bodySize (Sort.LiteOptions address names context extras) [] (namesOn (now (t .entry)) name names) (extrasOn (now (t .entry)) extra extras)) (layoutLite (record { service = record { address = addressOf address; names = map (nameOf (now (src .entry))) (namesOn (now (t .entry)) name names); context = shown (now (src .entry)) context }; extras = map (extraOf (now (src .entry))) (extrasOn (now (t .entry)) extra extras) })) (now (out .exit)) r ⌝ }
+{
+    let a = write_fixed(extras + 1, out, at);
+    let b = write_service(address, context, t, name, names, src, out, a);
+    write_extras(t, extra, extras, src, out, b)
+}
+
+// A LiteOptions profile, whose names and extras are `names` from `name` on and `extras` from `extra` on.
+pub fn write_lite(
+    address: NsapAddress,
+    context: View,
+    t: &[u32],
+    name: usize,
+    names: usize,
+    extra: usize,
+    extras: usize,
+    src: &[u8],
+    out: &mut [u8],
+    at: usize,
+) -> usize
+    requires { ⌜ (length (now t) ≡ 490) × (name + names ≤ 32) × (extra + extras ≤ 32) ⌝ }
+    requires { ⌜ LiteSound (length (now src)) (namesOn (now t) name names) context (extrasOn (now t) extra extras) ⌝ }
+    requires { ⌜ bodySize (Sort.LiteOptions address names context extras) [] (namesOn (now t) name names) (extrasOn (now t) extra extras) ≤ 65535 ⌝ }
+    requires { ⌜ at + (8 + bodySize (Sort.LiteOptions address names context extras) [] (namesOn (now t) name names) (extrasOn (now t) extra extras)) ≤ length (now out) ⌝ }
+    ensures { λ r. ⌜ Put (now (out .entry)) at (8 + bodySize (Sort.LiteOptions address names context extras) [] (namesOn (now (t .entry)) name names) (extrasOn (now (t .entry)) extra extras)) (layoutProfile (bodyOf (now (src .entry)) (Sort.LiteOptions address names context extras) [] (map (nameOf (now (src .entry))) (namesOn (now (t .entry)) name names)) (map (extraOf (now (src .entry))) (extrasOn (now (t .entry)) extra extras)))) (now (out .exit)) r ⌝ }
+{
+    let body = at + 8;
+    let end = write_lite_data(
+        address,
+        context,
+        t,
+        name,
+        names,
+        extra,
+        extras,
+        src,
+        out,
+        body,
+    );
+    write_long_header(TAG_LITE_OPTIONS, end - body, out, at);
+    end
+}
+
+pub fn write_opaque(tag: u32, data: View, src: &[u8], out: &mut [u8], at: usize) -> usize
+    requires { ⌜ Within (length (now src)) «data» ⌝ }
+    requires { ⌜ at + (8 + «data» .len) ≤ length (now out) ⌝ }
+    ensures { λ r. ⌜ Put (now (out .entry)) at (8 + «data» .len) (layoutProfile (bodyOf (now (src .entry)) (Sort.Opaque tag «data») [] [] [])) (now (out .exit)) r ⌝ }
+{
+    let a = put32(out, at, tag);
+    write_run(data, src, out, a)
+}
