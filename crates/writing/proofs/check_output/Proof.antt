@@ -1,0 +1,70 @@
+-- `writing::check_output` meets its contract. 5, 4 and 2 in their order. Assumes nothing.
+use borrow.Author.Needs.{needs}
+use mathlib.Core.Path.{sym, ap, _∙_}
+use Prim.Native.Nat.{ℕ}
+use native.Mathlib.Omega.{arith}
+use Rattle.reference.specs.declared.Check.the-variants.{Refuse}
+use Rattle.reference.specs.Reader.{refusal}
+use Rattle.reference.specs.Tables.{usedOf}
+use Rattle.table.specs.Flat.{tablesFrom}
+use Rattle.table.proofs.Entries.{type-id-entry}
+use Rattle.writing.proofs.Answers.{no-room-refuses, type-refuses, sizes-decide}
+use Rattle.writing.proofs.Checked.{small-short}
+use Rattle.writing.proofs.check_output.Statement.{statement}
+use Rattle.writing.proofs.check_output.Tie as tie
+
+no-room-requires : tie.Need-no-room-requires
+no-room-requires c κs = search needs
+
+returns : tie.Need-returns
+returns c =
+    let s = c .before .before .before in
+    ap Refuse (c .no-room .ensures ∙ ap (λ (k : ℕ). refusal 5 0 k (s .args .room)) (s .pre .2))
+    ∙ sym (no-room-refuses (tablesFrom (s .args .t .now)) (s .args .room) (omega (arith, s .pre .2)))
+
+view-at-requires : tie.Need-view-at-requires
+view-at-requires c κs = search needs
+
+wrong-requires : tie.Need-wrong-requires
+wrong-requires c κs = search needs
+
+returns-2 : tie.Need-returns-2
+returns-2 c =
+    let v = c .before .before .before in
+    let s = v .before .before .before in
+    let t = s .args .t .now in
+    ap Refuse (c .wrong .ensures)
+    ∙ sym (type-refuses (tablesFrom t) (s .args .room) _ (v .view-at .ensures ∙ sym (type-id-entry t)) (omega (arith, s .pre .2)) (c .before .if2 .taken))
+
+returns-3 : tie.Need-returns-3
+returns-3 c =
+    let v = c .before .before .before in
+    let s = v .before .before .before in
+    let t = s .args .t .now in
+    sym
+    (sizes-decide (tablesFrom t) (s .args .room) _ (v .view-at .ensures ∙ sym (type-id-entry t)) (omega (arith, s .pre .2)) (c .before .if2 .left)
+    ∙ small-short (usedOf (tablesFrom t)) (omega (arith, s .pre .2)))
+
+check-sizes-requires : tie.Need-check-sizes-requires
+check-sizes-requires c κs = search needs
+
+returns-4 : tie.Need-returns-4
+returns-4 c =
+    let v = c .before .before .before .before in
+    let s = v .before .before .before in
+    let t = s .args .t .now in
+    c .check-sizes .ensures
+    ∙ sym (sizes-decide (tablesFrom t) (s .args .room) _ (v .view-at .ensures ∙ sym (type-id-entry t)) (omega (arith, s .pre .2)) (c .before .before .if2 .left))
+
+pub check-output-spec : {M : Type 1} → statement M
+check-output-spec =
+    tie.close
+    (tie.spec
+    no-room-requires
+    returns
+    view-at-requires
+    wrong-requires
+    returns-2
+    returns-3
+    check-sizes-requires
+    returns-4)

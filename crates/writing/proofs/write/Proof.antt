@@ -1,0 +1,44 @@
+-- `writing::write` meets its contract. The lent table tells the tables that were put into it. Assumes nothing.
+use mathlib.Core.Path.{ap, _∙_, subst}
+use Rattle.reference.specs.declared.Tables.{Tables}
+use Rattle.reference.proofs.Good.{typed}
+use Rattle.table.specs.Flat.{tablesFrom}
+use Rattle.by_value.proofs.Back.{tables-flat}
+use Rattle.writing.specs.Writes.{Writes}
+use borrow.Author.Needs.{needs}
+use Rattle.writing.proofs.write.Statement.{statement}
+use Rattle.writing.proofs.write.Tie as tie
+
+slice-aggregate-put-tables : tie.Need-slice-aggregate-put-tables
+slice-aggregate-put-tables c = search needs
+
+put-tables-requires : tie.Need-put-tables-requires
+put-tables-requires c κs = search needs
+
+slice-aggregate-write-from : tie.Need-slice-aggregate-write-from
+slice-aggregate-write-from c = search needs
+
+write-from-requires : tie.Need-write-from-requires
+write-from-requires c κs = search needs
+
+same-length : tie.Need-same-length
+same-length c = search needs
+
+returns : tie.Need-returns
+returns c =
+    let w = c .before .before in
+    let p = w .before .before .before .before in
+    let s = p .before .before .before .before in
+    let e = ap tablesFrom (p .put-tables .ensures) ∙ tables-flat (s .args .t) (typed (s .args .t) (s .good .0)) in
+    subst (λ (x : Tables). Writes x (s .args .src .now) (s .args .out .now) (w .write-from .result) (w .write-from .last .1 .1 .0)) e (w .write-from .ensures)
+
+pub write-spec : {M : Type 1} → statement M
+write-spec =
+    tie.close
+    (tie.spec
+    slice-aggregate-put-tables
+    put-tables-requires
+    slice-aggregate-write-from
+    write-from-requires
+    same-length
+    returns)

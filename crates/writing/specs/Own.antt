@@ -1,0 +1,46 @@
+-- A profile of a lent table with its own entries, and what its writer asks of it over a source of n octets. Assumes nothing.
+use Prim.Native.Nat.{ℕ, _+_, _≤_}
+use mathlib.Core.List.{List}
+use Rattle.reference.specs.declared.Tap.{Tap}
+use Rattle.reference.specs.declared.NameComponent.{NameComponent}
+use Rattle.reference.specs.declared.LiteComponent.{LiteComponent}
+use Rattle.reference.specs.declared.TaggedProfile.{TaggedProfile}
+use Rattle.reference.specs.declared.TaggedProfile.the-variants as Sort
+use Rattle.reference.specs.Tables.{Own, tapsIn, namesIn, extrasIn}
+use Rattle.reference.specs.Writer.{bodySize}
+use Rattle.table.specs.declared.Counts.{Counts}
+use Rattle.table.specs.Flat.{bodyOfTable}
+use Rattle.image.specs.Sound.{Within}
+use Rattle.profiles.specs.Entries.{tapsOn, namesOn, extrasOn, BiopSound, LiteSound}
+
+-- how many entries a profile counts
+abbrev pub countsIn : TaggedProfile → Counts
+countsIn b = record { taps = tapsIn b; names = namesIn b; extras = extrasIn b }
+
+-- the profile b with its entries in the table t, which begin at f
+abbrev pub ownWith : List ℕ → Counts → TaggedProfile → Own
+ownWith t f b =
+    record { body = b; taps = tapsOn t (f .taps) (tapsIn b); names = namesOn t (f .names) (namesIn b); extras = extrasOn t (f .extras) (extrasIn b) }
+
+-- profile i of the table
+abbrev pub ownOn : List ℕ → ℕ → Counts → Own
+ownOn t i f = ownWith t f (bodyOfTable t i)
+
+-- where the next profile's entries begin
+abbrev pub afterOf : Counts → Counts → Counts
+afterOf f n = record { taps = f .taps + n .taps; names = f .names + n .names; extras = f .extras + n .extras }
+
+abbrev pub BodySound : ℕ → TaggedProfile → List Tap → List NameComponent → List LiteComponent → Type 0
+BodySound n (Sort.Opaque t v) ts ns es = Within n v
+BodySound n (Sort.Biop l nt ne) ts ns es = BiopSound n l ts es
+BodySound n (Sort.LiteOptions a nn c ne) ts ns es = LiteSound n ns c es
+
+pub record OwnSound (n : ℕ) (o : Own) : Type 0 where
+  pub body : BodySound n (o .body) (o .taps) (o .names) (o .extras)
+  pub small : bodySize (o .body) (o .taps) (o .names) (o .extras) ≤ 65535
+
+-- the entries n of a profile that begin at f lie within the tables
+pub record Placed (f n : Counts) : Type 0 where
+  pub taps : f .taps + n .taps ≤ 36
+  pub names : f .names + n .names ≤ 32
+  pub extras : f .extras + n .extras ≤ 32

@@ -1,0 +1,205 @@
+// Writing a reference: all checks first, in the order of document 01 (6, 8, 9, 10, 5, 4, 2), then the stores; no octet is stored before every
+// check has passed.
+ghost use mathlib.Core.Path.{_≡_};
+ghost use mathlib.Core.List.{map};
+ghost use Prim.Native.Nat.{_+_, _≤_, _<_};
+ghost use lib.ListN.{length};
+ghost use Rattle.octets.specs.Octets.{joined};
+ghost use Rattle.octets.specs.Put.{Put};
+ghost use Rattle.reference.specs.declared.Check.the-variants.{Pass};
+ghost use Rattle.reference.specs.Layout.{layoutProfile};
+ghost use Rattle.reference.specs.Tables.{usedOf, ownedOf, profileOf};
+ghost use Rattle.reference.specs.Checks.{both, each, sum};
+ghost use Rattle.reference.specs.Writer.{ownSize, sizeOf, imageOf, countsCheck, roomCheck, typeCheck, ownShort, writeCheck, measured};
+ghost use Rattle.table.specs.Flat.{bodyOfTable, tablesFrom};
+ghost use Rattle.writing.specs.Own.{countsIn, ownOn, afterOf, OwnSound, Placed};
+ghost use Rattle.writing.specs.Writes.{Writes};
+use by_value::put_tables;
+use entries::address_at;
+use entries::extras_at;
+use entries::location_at;
+use entries::names_at;
+use entries::profile_view;
+use entries::sort_at;
+use entries::tag_at;
+use entries::taps_at;
+use entries::view_at;
+use image::write_run;
+use measuring::check_sizes;
+use measuring::length_from;
+use measuring::length_over;
+use octets::put32;
+use profiles::write_biop;
+use profiles::write_lite;
+use profiles::write_opaque;
+use reference::Answer;
+use reference::Check;
+use reference::Tables;
+use reference::no_room;
+use reference::wrong;
+use table::BIOP;
+use table::Counts;
+use table::LITE_OPTIONS;
+
+// How many entries profile i counts.
+fn counts_at(t: &[u32], i: usize) -> Counts
+    requires { ⌜ (i < 8) × (length (now t) ≡ 490) ⌝ }
+    ensures { λ r. ⌜ r ≡ countsIn (bodyOfTable (now (t .entry)) i) ⌝ }
+{
+    Counts {
+        taps: taps_at(t, i),
+        names: names_at(t, i),
+        extras: extras_at(t, i),
+    }
+}
+
+// Where the entries of the next profile begin.
+fn after(first: Counts, count: Counts) -> Counts
+    requires { ⌜ Placed first count ⌝ }
+    ensures { λ r. ⌜ r ≡ afterOf first count ⌝ }
+{
+    Counts {
+        taps: first.taps + count.taps,
+        names: first.names + count.names,
+        extras: first.extras + count.extras,
+    }
+}
+
+// Profile i, whose entries begin at `first`.
+fn write_profile(
+    t: &[u32],
+    i: usize,
+    first: Counts,
+    count: Counts,
+    src: &[u8],
+    out: &mut [u8],
+    at: usize,
+) -> usize
+    requires { ⌜ (i < 8) × (length (now t) ≡ 490) ⌝ }
+    requires { ⌜ (count ≡ countsIn (bodyOfTable (now t) i)) × (Placed first count) ⌝ }
+    requires { ⌜ OwnSound (length (now src)) (ownOn (now t) i first) ⌝ }
+    requires { ⌜ at + ownSize (ownOn (now t) i first) ≤ length (now out) ⌝ }
+    ensures { λ r. ⌜ Put (now (out .entry)) at (ownSize (ownOn (now (t .entry)) i first)) (layoutProfile (profileOf (now (src .entry)) (ownOn (now (t .entry)) i first))) (now (out .exit)) r ⌝ }
+{
+    let sort = sort_at(t, i);
+    if sort == BIOP {
+        let location = location_at(t, i);
+        return write_biop(
+            location,
+            t,
+            first.taps,
+            count.taps,
+            first.extras,
+            count.extras,
+            src,
+            out,
+            at,
+        );
+    }
+    let view = profile_view(t, i);
+    if sort == LITE_OPTIONS {
+        let address = address_at(t, i);
+        return write_lite(
+            address,
+            view,
+            t,
+            first.names,
+            count.names,
+            first.extras,
+            count.extras,
+            src,
+            out,
+            at,
+        );
+    }
+    write_opaque(tag_at(t, i), view, src, out, at)
+}
+
+// The profiles, one after the other.
+fn write_profiles(t: &[u32], src: &[u8], out: &mut [u8], at: usize) -> usize
+    requires { ⌜ (length (now t) ≡ 490) × (writeCheck (tablesFrom (now t)) (length (now src)) (length (now out)) ≡ Pass) ⌝ }
+    requires { ⌜ at + sum ownSize (ownedOf (usedOf (tablesFrom (now t)))) ≤ length (now out) ⌝ }
+    ensures { λ r. ⌜ Put (now (out .entry)) at (sum ownSize (ownedOf (usedOf (tablesFrom (now (t .entry)))))) (joined (map layoutProfile (map (profileOf (now (src .entry))) (ownedOf (usedOf (tablesFrom (now (t .entry)))))))) (now (out .exit)) r ⌝ }
+{
+    let used = t[2] as usize;
+    let mut first = Counts {
+        taps: 0,
+        names: 0,
+        extras: 0,
+    };
+    let mut pos = at;
+    let mut i: usize = 0;
+    while i < used {
+        let count = counts_at(t, i);
+        pos = write_profile(t, i, first, count, src, out, pos);
+        first = after(first, count);
+        i += 1;
+    }
+    pos
+}
+
+// The whole image, at the start of the output.
+fn write_image(t: &[u32], src: &[u8], out: &mut [u8]) -> usize
+    requires { ⌜ (length (now t) ≡ 490) × (writeCheck (tablesFrom (now t)) (length (now src)) (length (now out)) ≡ Pass) ⌝ }
+    ensures { λ r. ⌜ Put (now (out .entry)) 0 (sizeOf (usedOf (tablesFrom (now (t .entry))))) (imageOf (now (src .entry)) (tablesFrom (now (t .entry)))) (now (out .exit)) r ⌝ }
+{
+    let type_id = view_at(t, 0);
+    let a = write_run(type_id, src, out, 0);
+    let b = put32(out, a, t[2]);
+    write_profiles(t, src, out, b)
+}
+
+// 5, 4 and 2, in this order, for an image of `total` octets and an output of `room`.
+fn check_output(t: &[u32], total: usize, room: usize) -> Check
+    requires { ⌜ (length (now t) ≡ 490) × (countsCheck (tablesFrom (now t)) ≡ Pass) × (total ≡ sizeOf (usedOf (tablesFrom (now t)))) ⌝ }
+    ensures { λ r. ⌜ r ≡ both (roomCheck (sizeOf (usedOf (tablesFrom (now (t .entry))))) room) (both (typeCheck (tablesFrom (now (t .entry)) .«type_id»)) (each ownShort (ownedOf (usedOf (tablesFrom (now (t .entry))))))) ⌝ }
+{
+    if room < total {
+        return Check::Refuse(no_room(total, room));
+    }
+    let type_id = view_at(t, 0);
+    if type_id.len % 4 != 0 {
+        return Check::Refuse(wrong(4, 33));
+    }
+    // In an image of at most 255 octets no component is longer.
+    if total <= 255 {
+        return Check::Pass;
+    }
+    check_sizes(t)
+}
+
+// Writes the image at the start of `out` and answers its length; or refuses, and leaves `out` as it is.
+pub fn write_from(t: &[u32], src: &[u8], out: &mut [u8]) -> Answer
+    requires { ⌜ length (now t) ≡ 490 ⌝ }
+    ensures { λ r. ⌜ Writes (tablesFrom (now (t .entry))) (now (src .entry)) (now (out .entry)) r (now (out .exit)) ⌝ }
+{
+    let length = length_over(t, src.len());
+    match length {
+        Answer::Refused(r) => Answer::Refused(r),
+        Answer::Count(total) => {
+            let found = check_output(t, total, out.len());
+            if let Check::Refuse(r) = found {
+                return Answer::Refused(r);
+            }
+            Answer::Count(write_image(t, src, out))
+        }
+    }
+}
+
+// The length of the image of tables by value; or 6, 8, 9 or 10.
+pub fn image_length(t: Tables, src: &[u8]) -> Answer
+    ensures { λ r. ⌜ r ≡ measured t (now (src .entry)) ⌝ }
+{
+    let mut table = [0u32; 490];
+    put_tables(t, &mut table);
+    length_from(&table, src)
+}
+
+// The same as `write_from`, of tables by value.
+pub fn write(t: Tables, src: &[u8], out: &mut [u8]) -> Answer
+    ensures { λ r. ⌜ Writes t (now (src .entry)) (now (out .entry)) r (now (out .exit)) ⌝ }
+{
+    let mut table = [0u32; 490];
+    put_tables(t, &mut table);
+    write_from(&table, src, out)
+}
