@@ -1,0 +1,115 @@
+-- The promises, over what the face's contracts say. `s` are the octets of the caller's slice, `t` the caller's tables, `d` the output before the call and
+-- `e` after it, `r` what the call answered: each theorem begins with the very clause of the call's contract. That a slice of u8 holds octets (`Octets`)
+-- and that tables keep to their types (`Typed`) is what the language gives a caller; nothing else is asked. Assumes nothing.
+use Prim.Native.Nat.{ℕ, _+_, _≤_}
+use mathlib.Core.Path.{_≡_, sym, ap, _∙_, subst}
+use mathlib.Core.List.{List, _++_, map}
+use mathlib.Core.Logic.{_↔_}
+use lib.ListN.{length, take}
+use Rattle.octets.specs.Octets.{Octets, Each}
+use Rattle.reference.specs.declared.Answer.{Answer as Told}
+use Rattle.reference.specs.declared.Answer.the-variants.{Count, Refused}
+use Rattle.reference.specs.declared.Reading.{Reading}
+use Rattle.reference.specs.declared.Refusal.{Refusal}
+use Rattle.reference.specs.declared.Tables.{Tables}
+use Rattle.reference.specs.Meaning.{Reference}
+use Rattle.reference.specs.Layout.{Leads}
+use Rattle.reference.specs.Reader.{readLeading, readWhole}
+use Rattle.reference.specs.Tables.{tablesOf, tabled, noTables, usedOf, Typed, Unknown}
+use Rattle.reference.specs.Writer as Writer
+use Rattle.reference.specs.Writer.{answered, imageOf, measured}
+use Rattle.reference.specs.Promises.{ShowsFields, GivesBack, ReadsBack, PutInFront, LengthIsWritten, SameUsed}
+use Rattle.reference.specs.Worked as Table
+use Rattle.reference.proofs.Promised as promised
+use Rattle.reference.proofs.Written as written
+use Rattle.reference.proofs.Measured as measuredly
+use Rattle.reference.proofs.Worked as worked-out
+use Rattle.writing.specs.Writes.{Writes}
+
+-- the reading that accepts n octets with the tables t
+abbrev pub taking : ℕ → Tables → Reading
+taking n t = record { answer = Count n; tables = t }
+
+module _ (s : List ℕ) (o : Octets s) where
+  -- DEMAND 3. A slice of up to 65,535 octets is accepted by the leading reading with n octets and the tables t exactly when its first n octets are the
+  -- layout of a well-formed meaning that fits the tables, and t are that meaning's: no publisher is refused for nothing, none accepted for nothing.
+  pub accepts-exactly : (r : Reading) → r ≡ answered (readLeading s) → length s ≤ 65535 → (n : ℕ) (t : Tables)
+      → (r ≡ taking n t) ↔ ((m : Reference) × (Leads s m n) × (t ≡ tabled (tablesOf m)))
+  accepts-exactly r c small n t =
+      let h = promised.accepts-exactly s o small n t in
+      (λ e. h .0 (sym c ∙ e), λ w. c ∙ h .1 w)
+
+  -- The same for the whole slice, with n its length.
+  pub accepts-whole-exactly : (r : Reading) → r ≡ answered (readWhole s) → length s ≤ 65535 → (n : ℕ) (t : Tables)
+      → (r ≡ taking n t) ↔ ((m : Reference) × (Leads s m n) × (n ≡ length s) × (t ≡ tabled (tablesOf m)))
+  accepts-whole-exactly r c small n t =
+      let h = promised.accepts-whole-exactly s o small n t in
+      (λ e. h .0 (sym c ∙ e), λ w. c ∙ h .1 w)
+
+  -- Part and meaning are unique: an invented consumed count or a second reading of the same octets is shut out.
+  pub one-part-one-meaning : (m m′ : Reference) (n n′ : ℕ) → Leads s m n → Leads s m′ n′ → (m ≡ m′) × (n ≡ n′)
+  one-part-one-meaning m m′ n n′ l l′ = promised.one-part-one-meaning s o m m′ n n′ l l′
+
+  -- The tables of an accepted reading: each view shows the very octets of its field, at the offset where the field stands; unused entries are zero; the sums
+  -- equal the used counts.
+  pub views-show-their-fields : (r : Reading) → r ≡ answered (readLeading s) → (n : ℕ) → r .answer ≡ Count n
+      → (m : Reference) × (Leads s m n) × (ShowsFields s m (r .tables))
+  views-show-their-fields r c n e =
+      let (m, l, f) = promised.views-show-their-fields s o n (sym (ap (λ (x : Reading). x .answer) c) ∙ e) in
+      (m, l, subst (λ (x : Reading). ShowsFields s m (x .tables)) (sym c) f)
+
+  -- Writing the tables of an accepted reading over the same octets into any output with room answers the part's length and gives the part back: at every index
+  -- but the seven constants of each address the octets are equal, and behind the part the output is as before (`GivesBack`).
+  pub write-gives-back : (r : Reading) → r ≡ answered (readLeading s) → (n : ℕ) → r .answer ≡ Count n → (d : List ℕ) → n ≤ length d
+      → (m : Reference) × (Leads s m n) × (GivesBack s m (r .tables) n d)
+  write-gives-back r c n e d room =
+      let (m, l, g) = promised.write-gives-back s o n (sym (ap (λ (x : Reading). x .answer) c) ∙ e) d room in
+      (m, l, subst (λ (x : Reading). GivesBack s m (x .tables) n d) (sym c) g)
+
+-- DEMAND 1, first half: a refused reading gives the empty tables.
+pub refused-reading-is-empty : (s : List ℕ) (r : Reading) → r ≡ answered (readLeading s) → (x : Refusal) → r .answer ≡ Refused x → r .tables ≡ noTables
+refused-reading-is-empty s r c x e =
+    ap (λ (y : Reading). y .tables) c ∙ promised.refused-reading-is-empty s x (sym (ap (λ (y : Reading). y .answer) c) ∙ e)
+
+pub refused-whole-is-empty : (s : List ℕ) (r : Reading) → r ≡ answered (readWhole s) → (x : Refusal) → r .answer ≡ Refused x → r .tables ≡ noTables
+refused-whole-is-empty s r c x e =
+    ap (λ (y : Reading). y .tables) c ∙ promised.refused-whole-is-empty s x (sym (ap (λ (y : Reading). y .answer) c) ∙ e)
+
+module _ (t : Tables) (s d : List ℕ) (r : Told) (e : List ℕ) (w : Writes t s d r e) where
+  -- DEMAND 1, second half: a refused writing changes no octet.
+  pub refused-writing-leaves-all : (x : Refusal) → r ≡ Refused x → e ≡ d
+  refused-writing-leaves-all x h = w .leaves ∙ measuredly.refused-writing-leaves-all t s d x (sym (w .answers) ∙ h)
+
+  -- An accepted one puts the image at the front, as long as it answers, and leaves the octets behind it.
+  pub accepted-writing-puts : (n : ℕ) → r ≡ Count n → PutInFront t s d n
+  accepted-writing-puts n h = measuredly.accepted-writing-puts t s d n (sym (w .answers) ∙ h)
+
+  -- DEMAND 3, the other way: tables that the writer accepts, with no opaque profile under a known tag, are read back from the output itself with equal contents.
+  pub written-reads-back : Octets s → Octets d → length d ≤ 65535 → Typed t → Each Unknown (usedOf t .profiles) → (n : ℕ) → r ≡ Count n
+      → ReadsBack t s n e (answered (readLeading e))
+  written-reads-back o od small y u n h =
+      subst (λ (x : List ℕ). ReadsBack t s n x (answered (readLeading x))) (sym (w .leaves)) (written.output-reads-back t s d o od small y u n (sym (w .answers) ∙ h))
+
+-- What the writer accepts, its image as a whole slice reads back as well.
+pub image-reads-back : (t : Tables) (s d : List ℕ) (r : Told) (e : List ℕ) → Writes t s d r e → Octets s → Typed t → Each Unknown (usedOf t .profiles) → (n : ℕ) → r ≡ Count n
+    → ReadsBack t s n (imageOf s t) (answered (readWhole (imageOf s t)))
+image-reads-back t s d r e w o y u n h = written.written-reads-whole t s d o y u n (sym (w .answers) ∙ h)
+
+-- The octets of an accepted image are octets.
+pub image-octets : (t : Tables) (s d : List ℕ) (r : Told) (e : List ℕ) → Writes t s d r e → Octets s → Typed t → (n : ℕ) → r ≡ Count n → Octets (imageOf s t)
+image-octets t s d r e w o y n h = written.image-octets t s d o y n (sym (w .answers) ∙ h)
+
+-- The measured length is the image's and the length written, and measuring is refused with 6, 8, 9 or 10 exactly as writing is.
+pub length-is-written : (t : Tables) (s d : List ℕ) → LengthIsWritten t s d
+length-is-written t s d = measuredly.length-is-written t s d
+
+-- Only used entries are looked at: tables that agree in used counts and used entries are measured and written alike.
+pub only-used-matter : (t t′ : Tables) → SameUsed t t′ → (s d : List ℕ) (r r′ : Told) (e e′ : List ℕ) → Writes t s d r e → Writes t′ s d r′ e′
+    → (measured t s ≡ measured t′ s) × (r ≡ r′) × (e ≡ e′)
+only-used-matter t t′ h s d r r′ e e′ w w′ =
+    let x = measuredly.only-used-matter t t′ h s d in
+    (x .measures, w .answers ∙ x .answers ∙ sym (w′ .answers), w .leaves ∙ x .leave ∙ sym (w′ .leaves))
+
+-- P1 to P11 of document 01: each question of the table is answered as 01 says.
+pub worked : map (λ q. Table.reply (q .0)) Table.cases ≡ map (λ q. q .1) Table.cases
+worked = worked-out.worked

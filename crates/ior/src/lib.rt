@@ -1,0 +1,129 @@
+// The library's face: every public call, with what it does, what it refuses and what a refusal leaves. No call asks anything of its caller:
+// every slice, every table and every output gets an answer. A refusal is a number, a place and two figures (document 01); the promises
+// about these calls stand in proofs/Demands.
+ghost use mathlib.Core.Path.{_≡_};
+ghost use Rattle.reference.specs.Reader.{seen, readLeading, readWhole};
+ghost use Rattle.reference.specs.Writer.{answered, measured};
+ghost use Rattle.reference.specs.Questions.{kindOf, tapNumbersOf, firstBiop, dvbAddress};
+ghost use Rattle.reference.specs.Names.{readShortName, shortAt};
+ghost use Rattle.table.specs.Flat.{tablesFrom};
+ghost use Rattle.reading.specs.Into.{ReadInto};
+ghost use Rattle.writing.specs.Writes.{Writes};
+ghost use Rattle.questions.specs.Told.{kindTold, numbersTold, firstTold};
+ghost use Rattle.names.specs.Told.{shortTold};
+ghost use Rattle.names.specs.Writes as Short;
+use names::ShortNameRead;
+use questions::FirstBiop;
+use questions::ObjectKind;
+use questions::TapNumbers;
+use reference::Answer;
+use reference::NameComponent;
+use reference::Reading;
+use reference::Tables;
+
+// ---- reading: a slice to tables
+
+// Reads the reference that `s` begins with: how many octets it has, and its tables, whose views show `s`. Refuses with 6, then 1 to 4 as
+// the octets lie, then 7 where a table is too small; a refused reading gives the empty tables.
+pub fn read_leading(s: &[u8]) -> Reading
+    ensures { λ r. ⌜ r ≡ answered (readLeading (now (s .entry))) ⌝ }
+{
+    reading::read_leading(s)
+}
+
+// The same of a slice that is a reference as a whole: octets left over are refused with 1, place 4, before 7.
+pub fn read_whole(s: &[u8]) -> Reading
+    ensures { λ r. ⌜ r ≡ answered (readWhole (now (s .entry))) ⌝ }
+{
+    reading::read_whole(s)
+}
+
+// The two readings into a table of 490 numbers that the caller lends: no struct is copied. An accepted reading keeps what stands behind the
+// entries it fills; a refused one leaves zeros.
+pub fn read_leading_into(s: &[u8], table: &mut [u32; 490]) -> Answer
+    ensures { λ r. ⌜ ReadInto (readLeading (now (s .entry))) (now (table .entry)) (now (table .exit)) r ⌝ }
+{
+    reading::read_leading_into(s, table)
+}
+
+pub fn read_whole_into(s: &[u8], table: &mut [u32; 490]) -> Answer
+    ensures { λ r. ⌜ ReadInto (readWhole (now (s .entry))) (now (table .entry)) (now (table .exit)) r ⌝ }
+{
+    reading::read_whole_into(s, table)
+}
+
+// ---- measuring and writing: tables over a source to octets
+
+// The octets that the image of `t` over `src` has. Refuses with 6 for the source, 8 for counts, 9 for views, 10 for the image.
+pub fn image_length(t: Tables, src: &[u8]) -> Answer
+    ensures { λ r. ⌜ r ≡ measured t (now (src .entry)) ⌝ }
+{
+    writing::image_length(t, src)
+}
+
+// Writes the image of `t` over `src` at the front of `out`, and answers its length; what stands behind it stays. Refuses as measuring does,
+// then with 5 for no room, 4 for a type id, 2 for a component that is too long; a refused writing changes no octet.
+pub fn write(t: Tables, src: &[u8], out: &mut [u8]) -> Answer
+    ensures { λ r. ⌜ Writes t (now (src .entry)) (now (out .entry)) r (now (out .exit)) ⌝ }
+{
+    writing::write(t, src, out)
+}
+
+// The same from a table of 490 numbers that the caller lends. A number wider than its field counts by its low bits.
+pub fn length_from(table: &[u32; 490], src: &[u8]) -> Answer
+    ensures { λ r. ⌜ r ≡ measured (tablesFrom (now (table .entry))) (now (src .entry)) ⌝ }
+{
+    measuring::length_from(table, src)
+}
+
+pub fn write_from(table: &[u32; 490], src: &[u8], out: &mut [u8]) -> Answer
+    ensures { λ r. ⌜ Writes (tablesFrom (now (table .entry))) (now (src .entry)) (now (out .entry)) r (now (out .exit)) ⌝ }
+{
+    writing::write_from(table, src, out)
+}
+
+// ---- questions
+
+// The kind of object that a type id's octets name; never refused.
+pub fn object_kind(type_id: &[u8]) -> ObjectKind
+    ensures { λ r. ⌜ kindTold r ≡ kindOf (now («type_id» .entry)) ⌝ }
+{
+    questions::object_kind(type_id)
+}
+
+// A tap's transaction id and timeout, of its use and its selector's octets: both or neither; never refused.
+pub fn tap_numbers(use_: u16, selector: &[u8]) -> TapNumbers
+    ensures { λ r. ⌜ numbersTold r ≡ tapNumbersOf «use_» (now (selector .entry)) ⌝ }
+{
+    questions::tap_numbers(use_, selector)
+}
+
+// The index of the first BIOP profile, or none; 8 with place 40 if more than 8 profiles are used.
+pub fn first_biop(t: Tables) -> FirstBiop
+    ensures { λ r. ⌜ firstTold r ≡ firstBiop t ⌝ }
+{
+    questions::first_biop(t)
+}
+
+// Whether twenty octets are a DVB address: AFI, type, specifier type and the reserved four are those of the kind.
+pub fn is_dvb(a: [u8; 20]) -> bool
+    ensures { λ r. ⌜ r ≡ dvbAddress a ⌝ }
+{
+    questions::is_dvb(a)
+}
+
+// ---- the name component with lengths of one octet
+
+// Reads it from the start of `s`: its views and how many octets it has. Refuses with 6, 1 (places 26 and 27) and 2.
+pub fn read_short_name(s: &[u8]) -> ShortNameRead
+    ensures { λ r. ⌜ shortTold r ≡ seen shortAt (readShortName (now (s .entry))) ⌝ }
+{
+    names::read_short_name(s)
+}
+
+// Writes it at the front of `out`. Refuses with 6, 9, 5, then 2 for the id, then for the kind; a refused writing changes no octet.
+pub fn write_short_name(name: NameComponent, src: &[u8], out: &mut [u8]) -> Answer
+    ensures { λ r. ⌜ Short.Writes name (now (src .entry)) (now (out .entry)) r (now (out .exit)) ⌝ }
+{
+    names::write_short_name(name, src, out)
+}
