@@ -6,15 +6,13 @@ use mathlib.Core.Bool.{Bool, true, false}
 use mathlib.Core.List.{List}
 use lib.Dec.{ltb, eqb}
 use lib.ListN.{length}
-use Rattle.reference.specs.declared.Refusal.{Refusal}
 use Rattle.reference.specs.declared.View.{View}
 use Rattle.reference.specs.declared.Check.{Check}
 use Rattle.reference.specs.declared.Check.the-variants.{Pass, Refuse}
-use Rattle.reference.specs.Meaning.{Profile, biop, lite, opaque}
+use Rattle.reference.specs.Meaning.{Profile, biop, lite, opaque, Reference}
 use Rattle.reference.specs.Layout.{tag-biop, tag-lite}
 use Rattle.reference.specs.Reader.{Answer, ok, refused, refusal, Reader, pick, seen, done, need, number, run, check, readBiop, readLite, readLeading, readWhole}
 use Rattle.reference.specs.Tables.{view}
-use Rattle.reference.specs.Meaning.{Reference}
 use Rattle.reading.specs.declared.HeaderRead.{HeaderRead}
 use Rattle.reading.specs.declared.HeaderRead.the-variants as Headers
 use Rattle.reading.specs.declared.HeadRead.{HeadRead}
