@@ -1,10 +1,10 @@
 -- `image::write_address` meets its contract. Its three groups in a row are the layout. Assumes nothing.
+use borrow.Author.Needs.{needs}
 use mathlib.Core.List.{append-assoc}
 use mathlib.Core.Path.{refl}
-use Rattle.image.proofs.Laid.{last}
 use Rattle.octets.proofs.Put.{then, same}
 use Rattle.reference.specs.Layout.{layoutAddress}
-use borrow.Author.Needs.{needs}
+use Rattle.image.proofs.Laid.{last}
 use Rattle.image.proofs.write_address.Statement.{statement}
 use Rattle.image.proofs.write_address.Tie as tie
 

@@ -1,9 +1,9 @@
 -- `image::write_extra` meets its contract. The tag, then a run behind its length. Assumes nothing.
-use native.Mathlib.Omega.{arith}
+use borrow.Author.Needs.{needs}
 use mathlib.Core.Path.{refl}
+use native.Mathlib.Omega.{arith}
 use Rattle.octets.proofs.Put.{then, same}
 use Rattle.reference.specs.Layout.{layoutExtra}
-use borrow.Author.Needs.{needs}
 use Rattle.image.proofs.write_extra.Statement.{statement}
 use Rattle.image.proofs.write_extra.Tie as tie
 

@@ -1,6 +1,6 @@
 -- `image::write_fixed` meets its contract. Two octets in a row. Assumes nothing.
-use Rattle.octets.proofs.Put.{then}
 use borrow.Author.Needs.{needs}
+use Rattle.octets.proofs.Put.{then}
 use Rattle.image.proofs.write_fixed.Statement.{statement}
 use Rattle.image.proofs.write_fixed.Tie as tie
 

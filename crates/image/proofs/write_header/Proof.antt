@@ -1,6 +1,6 @@
 -- `image::write_header` meets its contract. Tag, then length. Assumes nothing.
-use Rattle.octets.proofs.Put.{then}
 use borrow.Author.Needs.{needs}
+use Rattle.octets.proofs.Put.{then}
 use Rattle.image.proofs.write_header.Statement.{statement}
 use Rattle.image.proofs.write_header.Tie as tie
 

@@ -1,12 +1,12 @@
 -- `image::write_location` meets its contract. The header tells the size of what is put after it. Assumes nothing.
-use Rattle.reference.specs.Tables.{locationOf}
-use native.Mathlib.Omega.{arith}
+use borrow.Author.Needs.{needs}
 use mathlib.Core.List.{append-assoc}
 use mathlib.Core.Path.{refl}
-use Rattle.image.proofs.Laid.{headed}
+use native.Mathlib.Omega.{arith}
 use Rattle.octets.proofs.Put.{then, same}
+use Rattle.reference.specs.Tables.{locationOf}
 use Rattle.reference.specs.Layout.{layoutLocation, tag-location}
-use borrow.Author.Needs.{needs}
+use Rattle.image.proofs.Laid.{headed}
 use Rattle.image.proofs.write_location.Statement.{statement}
 use Rattle.image.proofs.write_location.Tie as tie
 

@@ -1,11 +1,11 @@
 -- `image::write_name` meets its contract. Two runs behind their lengths. Assumes nothing.
-use native.Mathlib.Omega.{arith}
+use borrow.Author.Needs.{needs}
 use mathlib.Core.Path.{refl}
-use Rattle.image.proofs.Laid.{onto}
+use native.Mathlib.Omega.{arith}
 use Rattle.octets.proofs.Put.{same}
 use Rattle.reference.specs.Tables.{shown}
 use Rattle.reference.specs.Layout.{layoutName}
-use borrow.Author.Needs.{needs}
+use Rattle.image.proofs.Laid.{onto}
 use Rattle.image.proofs.write_name.Statement.{statement}
 use Rattle.image.proofs.write_name.Tie as tie
 

@@ -1,6 +1,6 @@
 -- `image::write_object` meets its contract. Four fields in a row. Assumes nothing.
-use Rattle.octets.proofs.Put.{then}
 use borrow.Author.Needs.{needs}
+use Rattle.octets.proofs.Put.{then}
 use Rattle.image.proofs.write_object.Statement.{statement}
 use Rattle.image.proofs.write_object.Tie as tie
 

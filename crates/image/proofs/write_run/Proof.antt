@@ -1,6 +1,6 @@
 -- `image::write_run` meets its contract. A length of four octets, then the run. Assumes nothing.
-use Rattle.image.proofs.Laid.{behind}
 use borrow.Author.Needs.{needs}
+use Rattle.image.proofs.Laid.{behind}
 use Rattle.image.proofs.write_run.Statement.{statement}
 use Rattle.image.proofs.write_run.Tie as tie
 

@@ -1,6 +1,6 @@
 -- `image::write_short` meets its contract. A length octet, then the run. Assumes nothing.
-use Rattle.image.proofs.Laid.{behind}
 use borrow.Author.Needs.{needs}
+use Rattle.image.proofs.Laid.{behind}
 use Rattle.image.proofs.write_short.Statement.{statement}
 use Rattle.image.proofs.write_short.Tie as tie
 

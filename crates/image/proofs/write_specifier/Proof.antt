@@ -1,6 +1,6 @@
 -- `image::write_specifier` meets its contract. Three octets in a row. Assumes nothing.
-use Rattle.octets.proofs.Put.{then}
 use borrow.Author.Needs.{needs}
+use Rattle.octets.proofs.Put.{then}
 use Rattle.image.proofs.write_specifier.Statement.{statement}
 use Rattle.image.proofs.write_specifier.Tie as tie
 

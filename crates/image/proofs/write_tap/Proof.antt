@@ -1,9 +1,9 @@
 -- `image::write_tap` meets its contract. Its fields in a row. Assumes nothing.
+use borrow.Author.Needs.{needs}
+use mathlib.Core.Path.{refl}
 use native.Mathlib.Omega.{arith}
 use Rattle.octets.proofs.Put.{then, same}
-use mathlib.Core.Path.{refl}
 use Rattle.reference.specs.Layout.{layoutTap}
-use borrow.Author.Needs.{needs}
 use Rattle.image.proofs.write_tap.Statement.{statement}
 use Rattle.image.proofs.write_tap.Tie as tie
 
