@@ -1,18 +1,17 @@
 // The profiles of a reference's image, from a lent table. A writer stores at `at` and answers the position after what it stored; a header is
 // stored after what it stands before: by then its length is known, and no size is summed twice.
 ghost use mathlib.Core.Path.{_≡_};
-ghost use mathlib.Core.List.{List, [], _∷_, map};
-ghost use Prim.Native.Nat.{_+_, _≤_, _<_};
+ghost use mathlib.Core.List.{map};
+ghost use Prim.Native.Nat.{_+_, _≤_};
 ghost use lib.ListN.{length};
-ghost use Rattle.octets.specs.Octets.{Each, joined};
+ghost use Rattle.octets.specs.Octets.{Each};
 ghost use Rattle.octets.specs.Put.{Put};
-ghost use Rattle.reference.specs.declared.TaggedProfile.the-variants as Sort;
-ghost use Rattle.reference.specs.Layout.{tagged, tag-binder, tag-service, layoutTap, layoutName, layoutExtra, layoutBinder, layoutService, layoutBiop, layoutLite, layoutProfile};
-ghost use Rattle.reference.specs.Tables.{shown, tapOf, nameOf, extraOf, locationOf, addressOf, bodyOf};
+ghost use Rattle.reference.specs.Layout.{tagged, tag-binder, tag-service, layoutTap, layoutName, layoutExtra, layoutBinder, layoutService};
+ghost use Rattle.reference.specs.Tables.{tapOf, nameOf, extraOf};
 ghost use Rattle.reference.specs.Checks.{sum};
-ghost use Rattle.reference.specs.Writer.{tapSize, nameSize, extraSize, binderSize, serviceSize, bodySize};
+ghost use Rattle.reference.specs.Writer.{tapSize, nameSize, extraSize, binderSize, serviceSize, ownSize};
 ghost use Rattle.image.specs.Sound.{Within, TapSound, NameSound, ExtraSound};
-ghost use Rattle.profiles.specs.Entries.{tapsOn, namesOn, extrasOn, BinderSound, BiopSound, LiteSound};
+ghost use Rattle.profiles.specs.Own.{tapsOn, namesOn, extrasOn, biopOn, liteOn, opaqueOn, serviceOn, dataSize, BinderSound, ServiceSound, OwnSound, PutAll, PutData, PutOwn};
 use entries::extra_at;
 use entries::name_at;
 use entries::tap_at;
@@ -47,7 +46,7 @@ pub fn write_taps(
     requires { ⌜ (length (now t) ≡ 490) × (first + count ≤ 36) ⌝ }
     requires { ⌜ Each (TapSound (length (now src))) (tapsOn (now t) first count) ⌝ }
     requires { ⌜ at + sum tapSize (tapsOn (now t) first count) ≤ length (now out) ⌝ }
-    ensures { λ r. ⌜ Put (now (out .entry)) at (sum tapSize (tapsOn (now (t .entry)) first count)) (joined (map layoutTap (map (tapOf (now (src .entry))) (tapsOn (now (t .entry)) first count)))) (now (out .exit)) r ⌝ }
+    ensures { λ r. ⌜ PutAll (tapOf (now (src .entry))) layoutTap tapSize (now (out .entry)) at (tapsOn (now (t .entry)) first count) (now (out .exit)) r ⌝ }
 {
     let mut pos = at;
     let mut i: usize = 0;
@@ -71,7 +70,7 @@ pub fn write_names(
     requires { ⌜ (length (now t) ≡ 490) × (first + count ≤ 32) ⌝ }
     requires { ⌜ Each (NameSound (length (now src))) (namesOn (now t) first count) ⌝ }
     requires { ⌜ at + sum nameSize (namesOn (now t) first count) ≤ length (now out) ⌝ }
-    ensures { λ r. ⌜ Put (now (out .entry)) at (sum nameSize (namesOn (now (t .entry)) first count)) (joined (map layoutName (map (nameOf (now (src .entry))) (namesOn (now (t .entry)) first count)))) (now (out .exit)) r ⌝ }
+    ensures { λ r. ⌜ PutAll (nameOf (now (src .entry))) layoutName nameSize (now (out .entry)) at (namesOn (now (t .entry)) first count) (now (out .exit)) r ⌝ }
 {
     let mut pos = at;
     let mut i: usize = 0;
@@ -95,7 +94,7 @@ pub fn write_extras(
     requires { ⌜ (length (now t) ≡ 490) × (first + count ≤ 32) ⌝ }
     requires { ⌜ Each (ExtraSound (length (now src))) (extrasOn (now t) first count) ⌝ }
     requires { ⌜ at + sum extraSize (extrasOn (now t) first count) ≤ length (now out) ⌝ }
-    ensures { λ r. ⌜ Put (now (out .entry)) at (sum extraSize (extrasOn (now (t .entry)) first count)) (joined (map layoutExtra (map (extraOf (now (src .entry))) (extrasOn (now (t .entry)) first count)))) (now (out .exit)) r ⌝ }
+    ensures { λ r. ⌜ PutAll (extraOf (now (src .entry))) layoutExtra extraSize (now (out .entry)) at (extrasOn (now (t .entry)) first count) (now (out .exit)) r ⌝ }
 {
     let mut pos = at;
     let mut i: usize = 0;
@@ -142,9 +141,9 @@ fn write_biop_data(
     at: usize,
 ) -> usize
     requires { ⌜ (length (now t) ≡ 490) × (tap + taps ≤ 36) × (extra + extras ≤ 32) ⌝ }
-    requires { ⌜ BiopSound (length (now src)) location (tapsOn (now t) tap taps) (extrasOn (now t) extra extras) ⌝ }
-    requires { ⌜ at + bodySize (Sort.Biop location taps extras) (tapsOn (now t) tap taps) [] (extrasOn (now t) extra extras) ≤ length (now out) ⌝ }
-    ensures { λ r. ⌜ Put (now (out .entry)) at (bodySize (Sort.Biop location taps extras) (tapsOn (now (t .entry)) tap taps) [] (extrasOn (now (t .entry)) extra extras)) (layoutBiop (record { location = locationOf (now (src .entry)) location; taps = map (tapOf (now (src .entry))) (tapsOn (now (t .entry)) tap taps); extras = map (extraOf (now (src .entry))) (extrasOn (now (t .entry)) extra extras) })) (now (out .exit)) r ⌝ }
+    requires { ⌜ OwnSound (length (now src)) (biopOn (now t) location tap taps extra extras) ⌝ }
+    requires { ⌜ at + dataSize (biopOn (now t) location tap taps extra extras) ≤ length (now out) ⌝ }
+    ensures { λ r. ⌜ PutData (now (out .entry)) at (now (src .entry)) (biopOn (now (t .entry)) location tap taps extra extras) (now (out .exit)) r ⌝ }
 {
     let a = write_fixed(extras + 2, out, at);
     let b = write_location(location, src, out, a);
@@ -165,10 +164,9 @@ pub fn write_biop(
     at: usize,
 ) -> usize
     requires { ⌜ (length (now t) ≡ 490) × (tap + taps ≤ 36) × (extra + extras ≤ 32) ⌝ }
-    requires { ⌜ BiopSound (length (now src)) location (tapsOn (now t) tap taps) (extrasOn (now t) extra extras) ⌝ }
-    requires { ⌜ bodySize (Sort.Biop location taps extras) (tapsOn (now t) tap taps) [] (extrasOn (now t) extra extras) ≤ 65535 ⌝ }
-    requires { ⌜ at + (8 + bodySize (Sort.Biop location taps extras) (tapsOn (now t) tap taps) [] (extrasOn (now t) extra extras)) ≤ length (now out) ⌝ }
-    ensures { λ r. ⌜ Put (now (out .entry)) at (8 + bodySize (Sort.Biop location taps extras) (tapsOn (now (t .entry)) tap taps) [] (extrasOn (now (t .entry)) extra extras)) (layoutProfile (bodyOf (now (src .entry)) (Sort.Biop location taps extras) (map (tapOf (now (src .entry))) (tapsOn (now (t .entry)) tap taps)) [] (map (extraOf (now (src .entry))) (extrasOn (now (t .entry)) extra extras)))) (now (out .exit)) r ⌝ }
+    requires { ⌜ OwnSound (length (now src)) (biopOn (now t) location tap taps extra extras) ⌝ }
+    requires { ⌜ at + ownSize (biopOn (now t) location tap taps extra extras) ≤ length (now out) ⌝ }
+    ensures { λ r. ⌜ PutOwn (now (out .entry)) at (now (src .entry)) (biopOn (now (t .entry)) location tap taps extra extras) (now (out .exit)) r ⌝ }
 {
     let body = at + 8;
     let end = write_biop_data(location, t, tap, taps, extra, extras, src, out, body);
@@ -188,9 +186,9 @@ fn write_service_data(
     at: usize,
 ) -> usize
     requires { ⌜ (length (now t) ≡ 490) × (name + names ≤ 32) ⌝ }
-    requires { ⌜ (Each (NameSound (length (now src))) (namesOn (now t) name names)) × (Within (length (now src)) context) ⌝ }
+    requires { ⌜ ServiceSound (length (now src)) (namesOn (now t) name names) context ⌝ }
     requires { ⌜ at + serviceSize (namesOn (now t) name names) context ≤ length (now out) ⌝ }
-    ensures { λ r. ⌜ Put (now (out .entry)) at (serviceSize (namesOn (now (t .entry)) name names) context) (layoutService (record { address = addressOf address; names = map (nameOf (now (src .entry))) (namesOn (now (t .entry)) name names); context = shown (now (src .entry)) context })) (now (out .exit)) r ⌝ }
+    ensures { λ r. ⌜ Put (now (out .entry)) at (serviceSize (namesOn (now (t .entry)) name names) context) (layoutService (serviceOn (now (src .entry)) (now (t .entry)) address context name names)) (now (out .exit)) r ⌝ }
 {
     let a = put8(out, at, 20);
     let b = write_address(address, out, a);
@@ -211,10 +209,10 @@ fn write_service(
     at: usize,
 ) -> usize
     requires { ⌜ (length (now t) ≡ 490) × (name + names ≤ 32) ⌝ }
-    requires { ⌜ (Each (NameSound (length (now src))) (namesOn (now t) name names)) × (Within (length (now src)) context) ⌝ }
+    requires { ⌜ ServiceSound (length (now src)) (namesOn (now t) name names) context ⌝ }
     requires { ⌜ serviceSize (namesOn (now t) name names) context ≤ 65535 ⌝ }
     requires { ⌜ at + (8 + serviceSize (namesOn (now t) name names) context) ≤ length (now out) ⌝ }
-    ensures { λ r. ⌜ Put (now (out .entry)) at (8 + serviceSize (namesOn (now (t .entry)) name names) context) (tagged 4 tag-service (layoutService (record { address = addressOf address; names = map (nameOf (now (src .entry))) (namesOn (now (t .entry)) name names); context = shown (now (src .entry)) context }))) (now (out .exit)) r ⌝ }
+    ensures { λ r. ⌜ Put (now (out .entry)) at (8 + serviceSize (namesOn (now (t .entry)) name names) context) (tagged 4 tag-service (layoutService (serviceOn (now (src .entry)) (now (t .entry)) address context name names))) (now (out .exit)) r ⌝ }
 {
     let body = at + 8;
     let end = write_service_data(address, context, t, name, names, src, out, body);
@@ -236,10 +234,9 @@ fn write_lite_data(
     at: usize,
 ) -> usize
     requires { ⌜ (length (now t) ≡ 490) × (name + names ≤ 32) × (extra + extras ≤ 32) ⌝ }
-    requires { ⌜ LiteSound (length (now src)) (namesOn (now t) name names) context (extrasOn (now t) extra extras) ⌝ }
-    requires { ⌜ bodySize (Sort.LiteOptions address names context extras) [] (namesOn (now t) name names) (extrasOn (now t) extra extras) ≤ 65535 ⌝ }
-    requires { ⌜ at + bodySize (Sort.LiteOptions address names context extras) [] (namesOn (now t) name names) (extrasOn (now t) extra extras) ≤ length (now out) ⌝ }
-    ensures { λ r. ⌜ Put (now (out .entry)) at (bodySize (Sort.LiteOptions address names context extras) [] (namesOn (now (t .entry)) name names) (extrasOn (now (t .entry)) extra extras)) (layoutLite (record { service = record { address = addressOf address; names = map (nameOf (now (src .entry))) (namesOn (now (t .entry)) name names); context = shown (now (src .entry)) context }; extras = map (extraOf (now (src .entry))) (extrasOn (now (t .entry)) extra extras) })) (now (out .exit)) r ⌝ }
+    requires { ⌜ OwnSound (length (now src)) (liteOn (now t) address context name names extra extras) ⌝ }
+    requires { ⌜ at + dataSize (liteOn (now t) address context name names extra extras) ≤ length (now out) ⌝ }
+    ensures { λ r. ⌜ PutData (now (out .entry)) at (now (src .entry)) (liteOn (now (t .entry)) address context name names extra extras) (now (out .exit)) r ⌝ }
 {
     let a = write_fixed(extras + 1, out, at);
     let b = write_service(address, context, t, name, names, src, out, a);
@@ -260,10 +257,9 @@ pub fn write_lite(
     at: usize,
 ) -> usize
     requires { ⌜ (length (now t) ≡ 490) × (name + names ≤ 32) × (extra + extras ≤ 32) ⌝ }
-    requires { ⌜ LiteSound (length (now src)) (namesOn (now t) name names) context (extrasOn (now t) extra extras) ⌝ }
-    requires { ⌜ bodySize (Sort.LiteOptions address names context extras) [] (namesOn (now t) name names) (extrasOn (now t) extra extras) ≤ 65535 ⌝ }
-    requires { ⌜ at + (8 + bodySize (Sort.LiteOptions address names context extras) [] (namesOn (now t) name names) (extrasOn (now t) extra extras)) ≤ length (now out) ⌝ }
-    ensures { λ r. ⌜ Put (now (out .entry)) at (8 + bodySize (Sort.LiteOptions address names context extras) [] (namesOn (now (t .entry)) name names) (extrasOn (now (t .entry)) extra extras)) (layoutProfile (bodyOf (now (src .entry)) (Sort.LiteOptions address names context extras) [] (map (nameOf (now (src .entry))) (namesOn (now (t .entry)) name names)) (map (extraOf (now (src .entry))) (extrasOn (now (t .entry)) extra extras)))) (now (out .exit)) r ⌝ }
+    requires { ⌜ OwnSound (length (now src)) (liteOn (now t) address context name names extra extras) ⌝ }
+    requires { ⌜ at + ownSize (liteOn (now t) address context name names extra extras) ≤ length (now out) ⌝ }
+    ensures { λ r. ⌜ PutOwn (now (out .entry)) at (now (src .entry)) (liteOn (now (t .entry)) address context name names extra extras) (now (out .exit)) r ⌝ }
 {
     let body = at + 8;
     let end = write_lite_data(
@@ -284,8 +280,8 @@ pub fn write_lite(
 
 pub fn write_opaque(tag: u32, data: View, src: &[u8], out: &mut [u8], at: usize) -> usize
     requires { ⌜ Within (length (now src)) «data» ⌝ }
-    requires { ⌜ at + (8 + «data» .len) ≤ length (now out) ⌝ }
-    ensures { λ r. ⌜ Put (now (out .entry)) at (8 + «data» .len) (layoutProfile (bodyOf (now (src .entry)) (Sort.Opaque tag «data») [] [] [])) (now (out .exit)) r ⌝ }
+    requires { ⌜ at + ownSize (opaqueOn tag «data») ≤ length (now out) ⌝ }
+    ensures { λ r. ⌜ PutOwn (now (out .entry)) at (now (src .entry)) (opaqueOn tag «data») (now (out .exit)) r ⌝ }
 {
     let a = put32(out, at, tag);
     write_run(data, src, out, a)

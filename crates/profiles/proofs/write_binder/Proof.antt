@@ -1,15 +1,15 @@
 -- `profiles::write_binder` meets its contract. The count and the taps, then the header before them. Assumes nothing.
-use Rattle.profiles.proofs.Ahead.{part-count}
-use Rattle.table.proofs.Entries.{taps-length}
-use Rattle.table.specs.Flat.{tablesFrom}
-use Rattle.image.proofs.Laid.{last, header-after}
+use borrow.Author.Needs.{needs}
+use mathlib.Core.Path.{refl, sym, ap}
+use native.Mathlib.Omega.{arith}
 use Rattle.octets.specs.Octets.{octets}
+use Rattle.octets.proofs.Put.{then, same}
 use Rattle.reference.specs.Tables.{tapOf}
 use Rattle.reference.specs.Layout.{tag-binder, layoutBinder}
-use mathlib.Core.Path.{refl, sym, ap}
-use Rattle.octets.proofs.Put.{then, same}
-use native.Mathlib.Omega.{arith}
-use borrow.Author.Needs.{needs}
+use Rattle.table.specs.Flat.{tablesFrom}
+use Rattle.table.proofs.Entries.{taps-length}
+use Rattle.image.proofs.Laid.{last, header-after}
+use Rattle.profiles.proofs.Ahead.{part-count}
 use Rattle.profiles.proofs.write_binder.Statement.{statement}
 use Rattle.profiles.proofs.write_binder.Tie as tie
 

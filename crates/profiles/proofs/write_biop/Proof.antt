@@ -1,8 +1,8 @@
 -- `profiles::write_biop` meets its contract. The data, then the header before it. Assumes nothing.
-use Rattle.image.proofs.Laid.{header-after}
-use Rattle.reference.specs.Layout.{tag-biop, tagOf, dataOf, layoutProfile}
-use native.Mathlib.Omega.{arith}
 use borrow.Author.Needs.{needs}
+use native.Mathlib.Omega.{arith}
+use Rattle.reference.specs.Layout.{tag-biop, tagOf, dataOf, layoutProfile}
+use Rattle.image.proofs.Laid.{header-after}
 use Rattle.profiles.proofs.write_biop.Statement.{statement}
 use Rattle.profiles.proofs.write_biop.Tie as tie
 

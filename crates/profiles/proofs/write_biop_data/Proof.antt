@@ -1,17 +1,17 @@
 -- `profiles::write_biop_data` meets its contract. The fields of the layout in a row. Assumes nothing.
-use Rattle.profiles.proofs.Ahead.{part-count}
-use Rattle.table.proofs.Entries.{extras-length}
-use Rattle.table.specs.Flat.{tablesFrom}
-use Rattle.image.proofs.Laid.{two, last}
-use Rattle.octets.specs.Octets.{octets}
-use Rattle.reference.specs.Tables.{extraOf}
-use Rattle.reference.specs.Layout.{layoutBiop}
-use mathlib.Core.List.{_++_}
-use Prim.Native.Nat.{ℕ, _+_}
-use mathlib.Core.Path.{refl, sym, ap}
-use Rattle.octets.proofs.Put.{then, same}
-use native.Mathlib.Omega.{arith}
 use borrow.Author.Needs.{needs}
+use mathlib.Core.List.{_++_}
+use mathlib.Core.Path.{refl, sym, ap}
+use Prim.Native.Nat.{ℕ, _+_}
+use native.Mathlib.Omega.{arith}
+use Rattle.octets.specs.Octets.{octets}
+use Rattle.octets.proofs.Put.{then, same}
+use Rattle.reference.specs.Tables.{extraOf}
+use Rattle.reference.specs.Layout.{layoutBiop, dataOf}
+use Rattle.table.specs.Flat.{tablesFrom}
+use Rattle.table.proofs.Entries.{extras-length}
+use Rattle.image.proofs.Laid.{two, last}
+use Rattle.profiles.proofs.Ahead.{part-count}
 use Rattle.profiles.proofs.write_biop_data.Statement.{statement}
 use Rattle.profiles.proofs.write_biop_data.Tie as tie
 
@@ -27,7 +27,7 @@ write-location-requires c κs = search needs
 write-binder-requires : tie.Need-write-binder-requires
 write-binder-requires c κs =
     let s = c .before .before .before .before .before .before .before .before .before .before .before .before in
-    ((s .pre .0 .0, s .pre .0 .1), (s .pre .1 .0 .binder, omega arith))
+    ((s .pre .0 .0, s .pre .0 .1), (s .pre .1 .0 .body .binder, omega arith))
 
 write-extras-requires : tie.Need-write-extras-requires
 write-extras-requires c κs =
@@ -35,13 +35,13 @@ write-extras-requires c κs =
     let l = b .before .before .before .before in
     let f = l .before .before .before .before in
     let s = f .before .before .before .before .before in
-    ((s .pre .0 .0, s .pre .0 .2), (s .pre .1 .0 .extras, omega (arith, b .write-binder .ensures, l .write-location .ensures, f .write-fixed .ensures, s .pre .1 .1)))
+    ((s .pre .0 .0, s .pre .0 .2), (s .pre .1 .0 .body .extras, omega (arith, b .write-binder .ensures, l .write-location .ensures, f .write-fixed .ensures, s .pre .1 .1)))
 
 same-length : tie.Need-same-length
 same-length c = search needs
 
 returns : tie.Need-returns
-unfolding layoutBiop
+unfolding layoutBiop dataOf
 returns c =
     let e = c .before .before in
     let b = e .before .before .before .before in

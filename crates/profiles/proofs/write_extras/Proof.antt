@@ -1,44 +1,28 @@
 -- `profiles::write_extras` meets its contract. The loop goes by what is left to put. Assumes nothing.
-use mathlib.Core.Path.{_≡_, sym, _∙_}
-use mathlib.Core.List.{_∷_}
+use mathlib.Core.Path.{sym, _∙_}
 use Prim.Native.Nat.{_+_, _-_, _≤_}
 use native.Mathlib.Omega.{arith}
 use lib.ListN.{length}
-use Rattle.octets.proofs.Part.{ahead, ahead-start, ahead-end}
 use Rattle.reference.specs.Layout.{layoutExtra}
 use Rattle.reference.specs.Tables.{extraOf, noExtra}
 use Rattle.reference.specs.Writer.{extraSize}
 use Rattle.table.specs.Flat.{tablesFrom}
-use Rattle.image.specs.Sound.{ExtraSound}
-use Rattle.image.proofs.Left.{Left, begin, turn, fits, room, long, end}
-use Rattle.profiles.specs.Entries.{extrasOn}
 use Rattle.table.proofs.Entries.{extras-length, extra-entry}
-use Rattle.profiles.proofs.Ahead.{entry-open}
+use Rattle.image.specs.Sound.{ExtraSound}
+use Rattle.profiles.proofs.Ahead.{Going, begin, asks, turn, long, end}
 use Rattle.profiles.proofs.write_extras.Statement.{statement}
 use Rattle.profiles.proofs.write_extras.Tie as tie
 
 abbrev Inv-loop : tie.InvT-loop
-Inv-loop t first count src out₀ at pos₀ i₀ out pos i =
-    (i ≤ count) × Left (extraOf src) layoutExtra extraSize (ExtraSound (length src)) out₀ at (extrasOn t first count) (ahead (tablesFrom t .extras) first count noExtra i) out pos
+Inv-loop t first count src out₀ at pos₀ i₀ out pos i = (i ≤ count) × Going (tablesFrom t .extras) first count noExtra (extraOf src) layoutExtra extraSize (ExtraSound (length src)) out₀ at out pos i
 
 abbrev μ-loop : tie.MeasureT-loop
 μ-loop t first count src out₀ at pos₀ i₀ out pos i = count - i
 
--- the entry that a turn writes, and those after it
-opened : (v : tie.After-extra-at Inv-loop μ-loop)
-    → let l = v .before .before in
-    let a = l .before .before .before .before .args in
-    ahead (tablesFrom (a .t .now) .extras) (a .first) (a .count) noExtra (l .loop .i) ≡ v .extra-at .result ∷ ahead (tablesFrom (a .t .now) .extras) (a .first) (a .count) noExtra (l .loop .i + 1)
-opened v =
-    let l = v .before .before in
-    let a = l .before .before .before .before .args in
-    entry-open (tablesFrom (a .t .now) .extras) (a .first) (a .count) noExtra _ (l .loop .i) (omega arith) (omega (arith, extras-length (a .t .now)))
-    (extra-entry (a .t .now) (a .first + l .loop .i) (omega arith) ∙ sym (v .extra-at .ensures))
-
 loop-holds : tie.Need-loop-holds Inv-loop μ-loop
 loop-holds c =
     let s = c .before .before .before in
-    (omega arith, begin (ahead-start (tablesFrom (s .args .t .now) .extras) (s .args .first) (s .args .count) noExtra) (omega arith) (s .pre .1 .0))
+    (omega arith, begin (omega (arith, extras-length (s .args .t .now))) (s .pre .1 .1) (s .pre .1 .0))
 
 add-k : tie.Need-add-k Inv-loop μ-loop
 add-k c = omega arith
@@ -50,9 +34,8 @@ write-extra-requires : tie.Need-write-extra-requires Inv-loop μ-loop
 write-extra-requires c κs =
     let v = c .before in
     let l = v .before .before in
-    let s = l .before .before .before .before in
-    let o = opened v in
-    (fits o (l .loop .inv .1), room o (l .loop .inv .1) (s .pre .1 .1))
+    let a = l .before .before .before .before .args in
+    asks (l .loop .inv .1) (omega arith) (extra-entry (a .t .now) (a .first + l .loop .i) (omega arith) ∙ sym (v .extra-at .ensures))
 
 add-i : tie.Need-add-i Inv-loop μ-loop
 add-i c = omega arith
@@ -65,18 +48,14 @@ loop-again c =
     let w = c .before .before in
     let v = w .before .before in
     let l = v .before .before in
-    let s = l .before .before .before .before in
-    let o = opened v in
-    (omega arith, turn o (l .loop .inv .1) (w .write-extra .ensures))
+    let a = l .before .before .before .before .args in
+    (omega arith, turn (l .loop .inv .1) (omega arith) (extra-entry (a .t .now) (a .first + l .loop .i) (omega arith) ∙ sym (v .extra-at .ensures)) (w .write-extra .ensures))
 
 same-length : tie.Need-same-length Inv-loop μ-loop
 same-length c = long (c .before .loop .inv .1)
 
 returns : tie.Need-returns Inv-loop μ-loop
-returns c =
-    let l = c .before in
-    let s = l .before .before .before .before in
-    end (ahead-end (tablesFrom (s .args .t .now) .extras) (s .args .first) (s .args .count) noExtra (l .loop .i) (omega arith)) (l .loop .inv .1)
+returns c = end (c .before .loop .inv .1) (omega arith)
 
 pub write-extras-spec : {M : Type 1} → statement M
 write-extras-spec =

@@ -1,8 +1,8 @@
 -- `profiles::write_lite` meets its contract. The data, then the header before it. Assumes nothing.
-use Rattle.image.proofs.Laid.{header-after}
-use Rattle.reference.specs.Layout.{tag-lite, tagOf, dataOf, layoutProfile}
-use native.Mathlib.Omega.{arith}
 use borrow.Author.Needs.{needs}
+use native.Mathlib.Omega.{arith}
+use Rattle.reference.specs.Layout.{tag-lite, tagOf, dataOf, layoutProfile}
+use Rattle.image.proofs.Laid.{header-after}
 use Rattle.profiles.proofs.write_lite.Statement.{statement}
 use Rattle.profiles.proofs.write_lite.Tie as tie
 
@@ -12,7 +12,7 @@ add-body c = search needs
 write-lite-data-requires : tie.Need-write-lite-data-requires
 write-lite-data-requires c κs =
     let s = c .before .before .before .before in
-    (s .pre .0, (s .pre .1 .0, (s .pre .1 .1 .0, omega arith)))
+    (s .pre .0, (s .pre .1 .0, omega arith))
 
 sub-write-long-header : tie.Need-sub-write-long-header
 sub-write-long-header c = search needs

@@ -1,17 +1,17 @@
 -- `profiles::write_lite_data` meets its contract. The fields of the layout in a row. Assumes nothing.
-use Rattle.profiles.proofs.Ahead.{part-count}
-use Rattle.table.proofs.Entries.{extras-length}
-use Rattle.table.specs.Flat.{tablesFrom}
-use Rattle.image.proofs.Laid.{two, last}
-use Rattle.octets.specs.Octets.{octets}
-use Rattle.reference.specs.Tables.{extraOf}
-use Rattle.reference.specs.Layout.{layoutLite}
-use mathlib.Core.List.{_++_}
-use Prim.Native.Nat.{ℕ, _+_}
-use mathlib.Core.Path.{refl, sym, ap}
-use Rattle.octets.proofs.Put.{then, same}
-use native.Mathlib.Omega.{arith}
 use borrow.Author.Needs.{needs}
+use mathlib.Core.List.{_++_}
+use mathlib.Core.Path.{refl, sym, ap}
+use Prim.Native.Nat.{ℕ, _+_}
+use native.Mathlib.Omega.{arith}
+use Rattle.octets.specs.Octets.{octets}
+use Rattle.octets.proofs.Put.{then, same}
+use Rattle.reference.specs.Tables.{extraOf}
+use Rattle.reference.specs.Layout.{layoutLite, dataOf}
+use Rattle.table.specs.Flat.{tablesFrom}
+use Rattle.table.proofs.Entries.{extras-length}
+use Rattle.image.proofs.Laid.{two, last}
+use Rattle.profiles.proofs.Ahead.{part-count}
 use Rattle.profiles.proofs.write_lite_data.Statement.{statement}
 use Rattle.profiles.proofs.write_lite_data.Tie as tie
 
@@ -24,20 +24,20 @@ write-fixed-requires c κs = search needs
 write-service-requires : tie.Need-write-service-requires
 write-service-requires c κs =
     let s = c .before .before .before .before .before .before .before .before in
-    ((s .pre .0 .0, s .pre .0 .1), ((s .pre .1 .0 .names, s .pre .1 .0 .context), (omega arith, omega arith)))
+    ((s .pre .0 .0, s .pre .0 .1), (s .pre .1 .0 .body .service, (omega (arith, s .pre .1 .0 .small), omega arith)))
 
 write-extras-requires : tie.Need-write-extras-requires
 write-extras-requires c κs =
     let v = c .before .before .before in
     let f = v .before .before .before .before in
     let s = f .before .before .before .before .before in
-    ((s .pre .0 .0, s .pre .0 .2), (s .pre .1 .0 .extras, omega (arith, v .write-service .ensures, f .write-fixed .ensures, s .pre .1 .1)))
+    ((s .pre .0 .0, s .pre .0 .2), (s .pre .1 .0 .body .extras, omega (arith, v .write-service .ensures, f .write-fixed .ensures, s .pre .1 .1)))
 
 same-length : tie.Need-same-length
 same-length c = search needs
 
 returns : tie.Need-returns
-unfolding layoutLite
+unfolding layoutLite dataOf
 returns c =
     let e = c .before .before in
     let v = e .before .before .before .before in

@@ -1,9 +1,9 @@
 -- `profiles::write_opaque` meets its contract. The tag, then a run behind its length. Assumes nothing.
-use native.Mathlib.Omega.{arith}
+use borrow.Author.Needs.{needs}
 use mathlib.Core.Path.{refl}
+use native.Mathlib.Omega.{arith}
 use Rattle.octets.proofs.Put.{then, same}
 use Rattle.reference.specs.Layout.{layoutProfile, tagOf, dataOf}
-use borrow.Author.Needs.{needs}
 use Rattle.profiles.proofs.write_opaque.Statement.{statement}
 use Rattle.profiles.proofs.write_opaque.Tie as tie
 

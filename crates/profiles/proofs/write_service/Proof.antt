@@ -1,8 +1,8 @@
 -- `profiles::write_service` meets its contract. The fields, then the header before them. Assumes nothing.
-use Rattle.image.proofs.Laid.{header-after}
-use Rattle.reference.specs.Layout.{tag-service}
-use native.Mathlib.Omega.{arith}
 use borrow.Author.Needs.{needs}
+use native.Mathlib.Omega.{arith}
+use Rattle.reference.specs.Layout.{tag-service}
+use Rattle.image.proofs.Laid.{header-after}
 use Rattle.profiles.proofs.write_service.Statement.{statement}
 use Rattle.profiles.proofs.write_service.Tie as tie
 

@@ -1,14 +1,14 @@
 -- `profiles::write_service_data` meets its contract. The fields of the layout in a row. Assumes nothing.
-use Rattle.profiles.proofs.Ahead.{part-count}
-use Rattle.table.proofs.Entries.{names-length}
-use Rattle.table.specs.Flat.{tablesFrom}
+use borrow.Author.Needs.{needs}
+use mathlib.Core.Path.{refl, sym, ap}
+use native.Mathlib.Omega.{arith}
 use Rattle.octets.specs.Octets.{octets}
+use Rattle.octets.proofs.Put.{then, same}
 use Rattle.reference.specs.Tables.{nameOf}
 use Rattle.reference.specs.Layout.{layoutService}
-use mathlib.Core.Path.{refl, sym, ap}
-use Rattle.octets.proofs.Put.{then, same}
-use native.Mathlib.Omega.{arith}
-use borrow.Author.Needs.{needs}
+use Rattle.table.specs.Flat.{tablesFrom}
+use Rattle.table.proofs.Entries.{names-length}
+use Rattle.profiles.proofs.Ahead.{part-count}
 use Rattle.profiles.proofs.write_service_data.Statement.{statement}
 use Rattle.profiles.proofs.write_service_data.Tie as tie
 
@@ -30,7 +30,7 @@ write-names-requires c κs =
     let a = p .before .before .before .before in
     let o = a .before .before .before .before in
     let s = o .before .before .before .before .before in
-    (s .pre .0, (s .pre .1 .0 .0, omega (arith, p .put32 .ensures, a .write-address .ensures, o .put8 .ensures, s .pre .1 .1)))
+    (s .pre .0, (s .pre .1 .0 .names, omega (arith, p .put32 .ensures, a .write-address .ensures, o .put8 .ensures, s .pre .1 .1)))
 
 write-run-requires : tie.Need-write-run-requires
 write-run-requires c κs = search needs
