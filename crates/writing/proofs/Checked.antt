@@ -21,7 +21,7 @@ use Rattle.reference.proofs.Checks.{passes, passed, test-le, le-test, each-cons
 use Rattle.reference.proofs.Sizes.{ownViews, views-own}
 use Rattle.reference.proofs.Formed.{Passing}
 use Rattle.image.specs.Sound.{Within, TapSound, NameSound, ExtraSound}
-use Rattle.writing.specs.Own.{BodySound, OwnSound}
+use Rattle.profiles.specs.Own.{BodySound, OwnSound}
 
 module _ (n : ℕ) where
   taps-sound : (l : List Tap) → each (tapViews n) l ≡ Pass → sum tapSize l ≤ 254 → Each (TapSound n) l
@@ -55,7 +55,7 @@ module _ (n : ℕ) where
         extras = extras-sound es he ke;
       }
   body-sound (Sort.LiteOptions a nn c ne) ts ns es hb ht hn he k =
-      record { names = names-sound ns hn; context = test-le _ _ _ hb; extras = extras-sound es he k }
+      record { service = record { names = names-sound ns hn; context = test-le _ _ _ hb }; extras = extras-sound es he k }
 
   own-sound : (o : Own) → ownViews n o ≡ Pass → ownShort o ≡ Pass → ownSize o ≤ 65535 → OwnSound n o
   unfolding ownViews

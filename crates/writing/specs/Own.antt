@@ -1,17 +1,11 @@
--- A profile of a lent table with its own entries, and what its writer asks of it over a source of n octets. Assumes nothing.
+-- Profile i of a lent table with its own entries, and where they begin. Assumes nothing.
 use Prim.Native.Nat.{ℕ, _+_, _≤_}
 use mathlib.Core.List.{List}
-use Rattle.reference.specs.declared.Tap.{Tap}
-use Rattle.reference.specs.declared.NameComponent.{NameComponent}
-use Rattle.reference.specs.declared.LiteComponent.{LiteComponent}
 use Rattle.reference.specs.declared.TaggedProfile.{TaggedProfile}
-use Rattle.reference.specs.declared.TaggedProfile.the-variants as Sort
 use Rattle.reference.specs.Tables.{Own, tapsIn, namesIn, extrasIn}
-use Rattle.reference.specs.Writer.{bodySize}
 use Rattle.table.specs.declared.Counts.{Counts}
 use Rattle.table.specs.Flat.{bodyOfTable}
-use Rattle.image.specs.Sound.{Within}
-use Rattle.profiles.specs.Entries.{tapsOn, namesOn, extrasOn, BiopSound, LiteSound}
+use Rattle.profiles.specs.Own.{tapsOn, namesOn, extrasOn}
 
 -- how many entries a profile counts
 abbrev pub countsIn : TaggedProfile → Counts
@@ -29,15 +23,6 @@ ownOn t i f = ownWith t f (bodyOfTable t i)
 -- where the next profile's entries begin
 abbrev pub afterOf : Counts → Counts → Counts
 afterOf f n = record { taps = f .taps + n .taps; names = f .names + n .names; extras = f .extras + n .extras }
-
-abbrev pub BodySound : ℕ → TaggedProfile → List Tap → List NameComponent → List LiteComponent → Type 0
-BodySound n (Sort.Opaque t v) ts ns es = Within n v
-BodySound n (Sort.Biop l nt ne) ts ns es = BiopSound n l ts es
-BodySound n (Sort.LiteOptions a nn c ne) ts ns es = LiteSound n ns c es
-
-pub record OwnSound (n : ℕ) (o : Own) : Type 0 where
-  pub body : BodySound n (o .body) (o .taps) (o .names) (o .extras)
-  pub small : bodySize (o .body) (o .taps) (o .names) (o .extras) ≤ 65535
 
 -- the entries n of a profile that begin at f lie within the tables
 pub record Placed (f n : Counts) : Type 0 where

@@ -1,10 +1,8 @@
 // Writing a reference: all checks first, in the order of document 01 (6, 8, 9, 10, 5, 4, 2), then the stores; no octet is stored before every
 // check has passed.
 ghost use mathlib.Core.Path.{_≡_};
-ghost use mathlib.Core.List.{map};
 ghost use Prim.Native.Nat.{_+_, _≤_, _<_};
 ghost use lib.ListN.{length};
-ghost use Rattle.octets.specs.Octets.{joined};
 ghost use Rattle.octets.specs.Put.{Put};
 ghost use Rattle.reference.specs.declared.Check.the-variants.{Pass};
 ghost use Rattle.reference.specs.Layout.{layoutProfile};
@@ -12,7 +10,8 @@ ghost use Rattle.reference.specs.Tables.{usedOf, ownedOf, profileOf};
 ghost use Rattle.reference.specs.Checks.{both, each, sum};
 ghost use Rattle.reference.specs.Writer.{ownSize, sizeOf, imageOf, countsCheck, roomCheck, typeCheck, ownShort, writeCheck, measured};
 ghost use Rattle.table.specs.Flat.{bodyOfTable, tablesFrom};
-ghost use Rattle.writing.specs.Own.{countsIn, ownOn, afterOf, OwnSound, Placed};
+ghost use Rattle.profiles.specs.Own.{OwnSound, PutAll, PutOwn};
+ghost use Rattle.writing.specs.Own.{countsIn, ownOn, afterOf, Placed};
 ghost use Rattle.writing.specs.Writes.{Writes};
 use by_value::put_tables;
 use entries::address_at;
@@ -79,7 +78,7 @@ fn write_profile(
     requires { ⌜ (count ≡ countsIn (bodyOfTable (now t) i)) × (Placed first count) ⌝ }
     requires { ⌜ OwnSound (length (now src)) (ownOn (now t) i first) ⌝ }
     requires { ⌜ at + ownSize (ownOn (now t) i first) ≤ length (now out) ⌝ }
-    ensures { λ r. ⌜ Put (now (out .entry)) at (ownSize (ownOn (now (t .entry)) i first)) (layoutProfile (profileOf (now (src .entry)) (ownOn (now (t .entry)) i first))) (now (out .exit)) r ⌝ }
+    ensures { λ r. ⌜ PutOwn (now (out .entry)) at (now (src .entry)) (ownOn (now (t .entry)) i first) (now (out .exit)) r ⌝ }
 {
     let sort = sort_at(t, i);
     if sort == BIOP {
@@ -119,7 +118,7 @@ fn write_profile(
 fn write_profiles(t: &[u32], src: &[u8], out: &mut [u8], at: usize) -> usize
     requires { ⌜ (length (now t) ≡ 490) × (writeCheck (tablesFrom (now t)) (length (now src)) (length (now out)) ≡ Pass) ⌝ }
     requires { ⌜ at + sum ownSize (ownedOf (usedOf (tablesFrom (now t)))) ≤ length (now out) ⌝ }
-    ensures { λ r. ⌜ Put (now (out .entry)) at (sum ownSize (ownedOf (usedOf (tablesFrom (now (t .entry)))))) (joined (map layoutProfile (map (profileOf (now (src .entry))) (ownedOf (usedOf (tablesFrom (now (t .entry)))))))) (now (out .exit)) r ⌝ }
+    ensures { λ r. ⌜ PutAll (profileOf (now (src .entry))) layoutProfile ownSize (now (out .entry)) at (ownedOf (usedOf (tablesFrom (now (t .entry))))) (now (out .exit)) r ⌝ }
 {
     let used = t[2] as usize;
     let mut first = Counts {

@@ -1,11 +1,11 @@
 -- `writing::image_length` meets its contract. The lent table tells the tables that were put into it. Assumes nothing.
+use borrow.Author.Needs.{needs}
 use mathlib.Core.Path.{ap, _∙_}
 use Rattle.reference.specs.declared.Tables.{Tables}
 use Rattle.reference.specs.Writer.{measured}
 use Rattle.reference.proofs.Good.{typed}
 use Rattle.table.specs.Flat.{tablesFrom}
 use Rattle.by_value.proofs.Back.{tables-flat}
-use borrow.Author.Needs.{needs}
 use Rattle.writing.proofs.image_length.Statement.{statement}
 use Rattle.writing.proofs.image_length.Tie as tie
 

@@ -1,11 +1,11 @@
 -- `writing::write` meets its contract. The lent table tells the tables that were put into it. Assumes nothing.
+use borrow.Author.Needs.{needs}
 use mathlib.Core.Path.{ap, _∙_, subst}
 use Rattle.reference.specs.declared.Tables.{Tables}
 use Rattle.reference.proofs.Good.{typed}
 use Rattle.table.specs.Flat.{tablesFrom}
 use Rattle.by_value.proofs.Back.{tables-flat}
 use Rattle.writing.specs.Writes.{Writes}
-use borrow.Author.Needs.{needs}
 use Rattle.writing.proofs.write.Statement.{statement}
 use Rattle.writing.proofs.write.Tie as tie
 

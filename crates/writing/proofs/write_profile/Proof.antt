@@ -1,26 +1,18 @@
 -- `writing::write_profile` meets its contract. The sort that was read tells the profile, and its writer says what was put. Assumes nothing.
+use borrow.Author.Needs.{needs}
 use mathlib.Core.Path.{_≡_, sym, _∙_, subst}
-use mathlib.Core.List.{List}
-use Prim.Native.Nat.{ℕ, _+_, _*_, _≤_}
+use Prim.Native.Nat.{_+_, _*_, _≤_}
 use lib.ListN.{length}
 use Rattle.octets.specs.Octets.{part}
-use Rattle.octets.specs.Put.{Put}
 use Rattle.reference.specs.declared.TaggedProfile.{TaggedProfile}
 use Rattle.reference.specs.declared.TaggedProfile.the-variants as Sort
-use Rattle.reference.specs.Layout.{layoutProfile}
-use Rattle.reference.specs.Tables.{profileOf}
 use Rattle.reference.specs.Writer.{ownSize}
-use Rattle.table.specs.declared.Counts.{Counts}
 use Rattle.table.specs.Flat.{bodyOfTable}
-use Rattle.writing.specs.Own.{ownWith, OwnSound}
+use Rattle.profiles.specs.Own.{OwnSound, PutOwn}
+use Rattle.writing.specs.Own.{ownWith}
 use Rattle.writing.proofs.Told.{biop-told, lite-told, opaque-told}
-use borrow.Author.Needs.{needs}
 use Rattle.writing.proofs.write_profile.Statement.{statement}
 use Rattle.writing.proofs.write_profile.Tie as tie
-
--- what is put of a profile b of the table, whose entries begin at f
-abbrev Laid : List ℕ → List ℕ → Counts → List ℕ → ℕ → List ℕ → ℕ → TaggedProfile → Type 0
-Laid t s f d at e r b = Put d at (ownSize (ownWith t f b)) (layoutProfile (profileOf s (ownWith t f b))) e r
 
 -- the sort that was read tells the profile
 biop : (c : tie.After-location-at)
@@ -67,7 +59,7 @@ write-biop-requires c κs =
     let e = biop k in
     let o = subst (λ (b : TaggedProfile). OwnSound (length (s .args .src .now)) (ownWith (s .args .t .now) (s .args .first) b)) e (s .pre .1 .1 .0) in
     let m = subst (λ (b : TaggedProfile). s .args .at + ownSize (ownWith (s .args .t .now) (s .args .first) b) ≤ length (s .args .out .now)) e (s .pre .1 .1 .1) in
-    ((s .pre .0 .1, s .pre .1 .0 .1 .taps, s .pre .1 .0 .1 .extras), (o .body, (o .small, m)))
+    ((s .pre .0 .1, s .pre .1 .0 .1 .taps, s .pre .1 .0 .1 .extras), (o, m))
 
 same-length : tie.Need-same-length
 same-length c = search needs
@@ -77,7 +69,7 @@ returns c =
     let w = c .before .before in
     let k = w .before .before in
     let s = k .before .before .before .before .before .before in
-    subst (Laid (s .args .t .now) (s .args .src .now) (s .args .first) (s .args .out .now) (s .args .at) _ _) (sym (biop k)) (w .write-biop .ensures)
+    subst (λ (b : TaggedProfile). PutOwn (s .args .out .now) (s .args .at) (s .args .src .now) (ownWith (s .args .t .now) (s .args .first) b) (w .write-biop .last .1 .1 .1 .1 .1 .1 .1 .0) (w .write-biop .result)) (sym (biop k)) (w .write-biop .ensures)
 
 profile-view-requires : tie.Need-profile-view-requires
 profile-view-requires c κs = search needs
@@ -92,7 +84,7 @@ write-lite-requires c κs =
     let e = lite k in
     let o = subst (λ (b : TaggedProfile). OwnSound (length (s .args .src .now)) (ownWith (s .args .t .now) (s .args .first) b)) e (s .pre .1 .1 .0) in
     let m = subst (λ (b : TaggedProfile). s .args .at + ownSize (ownWith (s .args .t .now) (s .args .first) b) ≤ length (s .args .out .now)) e (s .pre .1 .1 .1) in
-    ((s .pre .0 .1, s .pre .1 .0 .1 .names, s .pre .1 .0 .1 .extras), (o .body, (o .small, m)))
+    ((s .pre .0 .1, s .pre .1 .0 .1 .names, s .pre .1 .0 .1 .extras), (o, m))
 
 same-length-2 : tie.Need-same-length-2
 same-length-2 c = search needs
@@ -102,7 +94,7 @@ returns-2 c =
     let w = c .before .before in
     let k = w .before .before in
     let s = k .before .before .before .before .before .before .before .before in
-    subst (Laid (s .args .t .now) (s .args .src .now) (s .args .first) (s .args .out .now) (s .args .at) _ _) (sym (lite k)) (w .write-lite .ensures)
+    subst (λ (b : TaggedProfile). PutOwn (s .args .out .now) (s .args .at) (s .args .src .now) (ownWith (s .args .t .now) (s .args .first) b) (w .write-lite .last .1 .1 .1 .1 .1 .1 .1 .1 .0) (w .write-lite .result)) (sym (lite k)) (w .write-lite .ensures)
 
 tag-at-requires : tie.Need-tag-at-requires
 tag-at-requires c κs = search needs
@@ -124,7 +116,7 @@ returns-3 c =
     let w = c .before .before in
     let k = w .before .before in
     let s = k .before .before .before .before .before .before .before .before in
-    subst (Laid (s .args .t .now) (s .args .src .now) (s .args .first) (s .args .out .now) (s .args .at) _ _) (sym (opaque k)) (w .write-opaque .ensures)
+    subst (λ (b : TaggedProfile). PutOwn (s .args .out .now) (s .args .at) (s .args .src .now) (ownWith (s .args .t .now) (s .args .first) b) (w .write-opaque .last .1 .1 .1 .0) (w .write-opaque .result)) (sym (opaque k)) (w .write-opaque .ensures)
 
 pub write-profile-spec : {M : Type 1} → statement M
 write-profile-spec =

@@ -11,9 +11,10 @@ use Rattle.reference.proofs.Formed.{Passing, passing}
 use Rattle.table.specs.declared.Counts.{Counts}
 use Rattle.table.specs.Flat.{tablesFrom, bodyOfTable}
 use Rattle.table.proofs.Entries.{profiles-used}
-use Rattle.image.proofs.Left.{Left, begin, turn, fits, room, long, end}
 use Rattle.measuring.specs.ByTable.{usedIn}
-use Rattle.writing.specs.Own.{countsIn, ownOn, afterOf, OwnSound, Placed}
+use Rattle.image.proofs.Left.{Left, begin, turn, fits, room, long, end}
+use Rattle.profiles.specs.Own.{OwnSound}
+use Rattle.writing.specs.Own.{countsIn, ownOn, afterOf, Placed}
 use Rattle.writing.proofs.Walked.{leftAt, Walked, left-end, walk-placed, walk-on, walk-open}
 use Rattle.writing.proofs.Checked.{used-sound}
 use Rattle.writing.proofs.write_profiles.Statement.{statement}
