@@ -1,0 +1,119 @@
+// The guide's program: reads a reference, looks at its tables, asks the questions, and writes it anew.
+use libc::STDOUT_FILENO;
+use questions::FirstBiop;
+use questions::ObjectKind;
+use reference::Answer;
+use reference::ObjectLocation;
+use reference::Tables;
+use reference::TaggedProfile;
+use reference::View;
+
+// A service gateway's reference: one BIOP profile with a key of two octets.
+const REFERENCE: [u8; 44] = [
+    0x00, 0x00, 0x00, 0x04, 0x73, 0x72, 0x67, 0x00, 0x00, 0x00, 0x00, 0x01, 0x49, 0x53, 0x4F, 0x06,
+    0x00, 0x00, 0x00, 0x18, 0x00, 0x02, 0x49, 0x53, 0x4F, 0x50, 0x0B, 0x00, 0x00, 0x00, 0x07, 0x00,
+    0x2A, 0x01, 0x00, 0x02, 0xC0, 0xDE, 0x49, 0x53, 0x4F, 0x40, 0x01, 0x00,
+];
+
+fn say(text: &[u8]) {
+    io::write_all(STDOUT_FILENO, text);
+}
+
+fn say_number(text: &[u8], n: u64) {
+    say(text);
+    io::print_decimal(STDOUT_FILENO, n);
+    say(b"\n");
+}
+
+fn wide(x: u8) -> u64 {
+    x as u64
+}
+
+fn say_octets(s: &[u8]) {
+    let mut i = 0;
+    while i < s.len() {
+        io::print_hex(STDOUT_FILENO, wide(s[i]), 2);
+        i += 1;
+    }
+    say(b"\n");
+}
+
+// What a view shows: its octets in the caller's slice. The views of an accepted reading lie within it.
+fn show(s: &[u8], v: View) {
+    let at = v.at as usize;
+    let stop = at + v.len as usize;
+    if stop <= s.len() {
+        say_octets(&s[at..stop]);
+    }
+}
+
+fn say_kind(type_id: &[u8]) {
+    match ior::object_kind(type_id) {
+        ObjectKind::Directory => say(b"kind dir\n"),
+        ObjectKind::File => say(b"kind fil\n"),
+        ObjectKind::Stream => say(b"kind str\n"),
+        ObjectKind::ServiceGateway => say(b"kind srg\n"),
+        ObjectKind::StreamEvent => say(b"kind ste\n"),
+        ObjectKind::Unknown(n) => say_number(b"kind ", n as u64),
+    }
+}
+
+fn say_location(s: &[u8], l: ObjectLocation) {
+    say_number(b"carousel ", l.carousel as u64);
+    say_number(b"module ", l.module as u64);
+    say(b"key ");
+    let key = l.key;
+    show(s, key);
+}
+
+// Which module the reference names: the location of its first BIOP profile.
+fn say_where(s: &[u8], t: Tables) {
+    if let FirstBiop::At(i) = ior::first_biop(t) {
+        if i < 8 {
+            let p = t.profiles[i];
+            let body = p.body;
+            if let TaggedProfile::Biop {
+                location,
+                taps: _,
+                extras: _,
+            } = body {
+                say_location(s, location);
+            }
+        }
+    }
+}
+
+// Writes the tables over the octets that they were read from.
+fn write_anew(s: &[u8], t: Tables) {
+    let mut out = [0u8; 64];
+    match ior::write(t, s, &mut out) {
+        Answer::Count(n) => say_number(b"written ", n as u64),
+        Answer::Refused(r) => say_number(b"not written: refusal ", wide(r.number)),
+    }
+}
+
+fn read_and_say(s: &[u8]) {
+    let r = ior::read_leading(s);
+    let answer = r.answer;
+    let tables = r.tables;
+    match answer {
+        Answer::Count(n) => {
+            say_number(b"read ", n as u64);
+            say_where(s, tables);
+            write_anew(s, tables);
+        }
+        Answer::Refused(why) => {
+            say_number(b"refusal ", wide(why.number));
+            say_number(b"place ", wide(why.place));
+            say_number(b"first figure ", why.first as u64);
+            say_number(b"second figure ", why.second as u64);
+        }
+    }
+}
+
+fn main() {
+    read_and_say(&REFERENCE);
+    say_kind(&REFERENCE[4..8]);
+    // The same, cut in the middle of its profile: a header that lies is refused, with the place and the figures.
+    read_and_say(&REFERENCE[..30]);
+}
