@@ -1,7 +1,8 @@
 -- `writing::write_profile` meets its contract. The sort that was read tells the profile, and its writer says what was put. Assumes nothing.
 use borrow.Author.Needs.{needs}
 use mathlib.Core.Path.{_≡_, sym, _∙_, subst}
-use Prim.Native.Nat.{_+_, _*_, _≤_}
+use mathlib.Core.List.{List}
+use Prim.Native.Nat.{ℕ, _+_, _*_, _≤_}
 use lib.ListN.{length}
 use Rattle.octets.specs.Octets.{part}
 use Rattle.reference.specs.declared.TaggedProfile.{TaggedProfile}
@@ -13,6 +14,18 @@ use Rattle.writing.specs.Own.{ownWith}
 use Rattle.writing.proofs.Told.{biop-told, lite-told, opaque-told}
 use Rattle.writing.proofs.write_profile.Statement.{statement}
 use Rattle.writing.proofs.write_profile.Tie as tie
+
+-- what the function asks and says of profile i it asks and says of the profile b that was told
+asked : (s : tie.Start) {b : TaggedProfile} → bodyOfTable (s .args .t .now) (s .args .i) ≡ b
+    → let o = ownWith (s .args .t .now) (s .args .first) b in
+    (OwnSound (length (s .args .src .now)) o) × (s .args .at + ownSize o ≤ length (s .args .out .now))
+asked s e =
+    subst
+    (λ (b : TaggedProfile). (OwnSound (length (s .args .src .now)) (ownWith (s .args .t .now) (s .args .first) b)) × (s .args .at + ownSize (ownWith (s .args .t .now) (s .args .first) b) ≤ length (s .args .out .now)))
+    e (s .pre .1 .1)
+
+abbrev Wrote : tie.Start → List ℕ → ℕ → TaggedProfile → Type 0
+Wrote s e r b = PutOwn (s .args .out .now) (s .args .at) (s .args .src .now) (ownWith (s .args .t .now) (s .args .first) b) e r
 
 -- the sort that was read tells the profile
 biop : (c : tie.After-location-at)
@@ -56,9 +69,7 @@ write-biop-requires : tie.Need-write-biop-requires
 write-biop-requires c κs =
     let k = c .before in
     let s = k .before .before .before .before .before .before in
-    let e = biop k in
-    let o = subst (λ (b : TaggedProfile). OwnSound (length (s .args .src .now)) (ownWith (s .args .t .now) (s .args .first) b)) e (s .pre .1 .1 .0) in
-    let m = subst (λ (b : TaggedProfile). s .args .at + ownSize (ownWith (s .args .t .now) (s .args .first) b) ≤ length (s .args .out .now)) e (s .pre .1 .1 .1) in
+    let (o, m) = asked s (biop k) in
     ((s .pre .0 .1, s .pre .1 .0 .1 .taps, s .pre .1 .0 .1 .extras), (o, m))
 
 same-length : tie.Need-same-length
@@ -69,7 +80,7 @@ returns c =
     let w = c .before .before in
     let k = w .before .before in
     let s = k .before .before .before .before .before .before in
-    subst (λ (b : TaggedProfile). PutOwn (s .args .out .now) (s .args .at) (s .args .src .now) (ownWith (s .args .t .now) (s .args .first) b) (w .write-biop .last .1 .1 .1 .1 .1 .1 .1 .0) (w .write-biop .result)) (sym (biop k)) (w .write-biop .ensures)
+    subst (Wrote s (w .write-biop .last .1 .1 .1 .1 .1 .1 .1 .0) (w .write-biop .result)) (sym (biop k)) (w .write-biop .ensures)
 
 profile-view-requires : tie.Need-profile-view-requires
 profile-view-requires c κs = search needs
@@ -81,9 +92,7 @@ write-lite-requires : tie.Need-write-lite-requires
 write-lite-requires c κs =
     let k = c .before in
     let s = k .before .before .before .before .before .before .before .before in
-    let e = lite k in
-    let o = subst (λ (b : TaggedProfile). OwnSound (length (s .args .src .now)) (ownWith (s .args .t .now) (s .args .first) b)) e (s .pre .1 .1 .0) in
-    let m = subst (λ (b : TaggedProfile). s .args .at + ownSize (ownWith (s .args .t .now) (s .args .first) b) ≤ length (s .args .out .now)) e (s .pre .1 .1 .1) in
+    let (o, m) = asked s (lite k) in
     ((s .pre .0 .1, s .pre .1 .0 .1 .names, s .pre .1 .0 .1 .extras), (o, m))
 
 same-length-2 : tie.Need-same-length-2
@@ -94,7 +103,7 @@ returns-2 c =
     let w = c .before .before in
     let k = w .before .before in
     let s = k .before .before .before .before .before .before .before .before in
-    subst (λ (b : TaggedProfile). PutOwn (s .args .out .now) (s .args .at) (s .args .src .now) (ownWith (s .args .t .now) (s .args .first) b) (w .write-lite .last .1 .1 .1 .1 .1 .1 .1 .1 .0) (w .write-lite .result)) (sym (lite k)) (w .write-lite .ensures)
+    subst (Wrote s (w .write-lite .last .1 .1 .1 .1 .1 .1 .1 .1 .0) (w .write-lite .result)) (sym (lite k)) (w .write-lite .ensures)
 
 tag-at-requires : tie.Need-tag-at-requires
 tag-at-requires c κs = search needs
@@ -103,9 +112,7 @@ write-opaque-requires : tie.Need-write-opaque-requires
 write-opaque-requires c κs =
     let k = c .before in
     let s = k .before .before .before .before .before .before .before .before in
-    let e = opaque k in
-    let o = subst (λ (b : TaggedProfile). OwnSound (length (s .args .src .now)) (ownWith (s .args .t .now) (s .args .first) b)) e (s .pre .1 .1 .0) in
-    let m = subst (λ (b : TaggedProfile). s .args .at + ownSize (ownWith (s .args .t .now) (s .args .first) b) ≤ length (s .args .out .now)) e (s .pre .1 .1 .1) in
+    let (o, m) = asked s (opaque k) in
     (o .body, m)
 
 same-length-3 : tie.Need-same-length-3
@@ -116,7 +123,7 @@ returns-3 c =
     let w = c .before .before in
     let k = w .before .before in
     let s = k .before .before .before .before .before .before .before .before in
-    subst (λ (b : TaggedProfile). PutOwn (s .args .out .now) (s .args .at) (s .args .src .now) (ownWith (s .args .t .now) (s .args .first) b) (w .write-opaque .last .1 .1 .1 .0) (w .write-opaque .result)) (sym (opaque k)) (w .write-opaque .ensures)
+    subst (Wrote s (w .write-opaque .last .1 .1 .1 .0) (w .write-opaque .result)) (sym (opaque k)) (w .write-opaque .ensures)
 
 pub write-profile-spec : {M : Type 1} → statement M
 write-profile-spec =
