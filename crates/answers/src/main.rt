@@ -1,0 +1,405 @@
+// Answers requests from standard input, a line for each, until the input ends; a bad request ends the run. docs/ANSWERS.md has the form of a
+// request and of a line.
+ghost use mathlib.Core.Path.{_≡_};
+ghost use Prim.Native.Nat.{_+_, _≤_};
+ghost use lib.ListN.{length, replicate};
+ghost use Rattle.octets.specs.Octets.{be};
+ghost use Rattle.table.specs.Region.{chunks};
+ghost use Rattle.io.specs.Counts.{Counts};
+use by_value::tables_of;
+use exact::is_exact;
+use libc::STDIN_FILENO;
+use libc::STDOUT_FILENO;
+use lines::put_answer;
+use lines::put_first;
+use lines::put_kind;
+use lines::put_name;
+use lines::put_output;
+use lines::put_table;
+use lines::put_tap;
+use measuring::length_from;
+use names::read_short_name;
+use names::write_short_name;
+use octets::be16;
+use octets::be32;
+use questions::first_biop;
+use questions::is_dvb;
+use questions::object_kind;
+use questions::tap_numbers;
+use reading::read_leading_into;
+use reading::read_whole_into;
+use reference::Answer;
+use reference::NameComponent;
+use reference::View;
+use table::clear;
+use text::put_octet;
+use text::put_word;
+use writing::write_from;
+
+// What an output holds before a writing.
+const BEFORE: u8 = 0xA5;
+
+// How many octets there are, of a part of a request or of an answer's line; none if the request is bad.
+struct Found {
+    count: usize,
+    is_bad: bool,
+}
+
+fn bad() -> Found
+    ensures { λ r. ⌜ r .count ≡ 0 ⌝ }
+{
+    Found {
+        count: 0,
+        is_bad: true,
+    }
+}
+
+fn counted(count: usize) -> Found
+    ensures { λ r. ⌜ r .count ≡ count ⌝ }
+{
+    Found {
+        count,
+        is_bad: false,
+    }
+}
+
+// ---- the parts of a request
+
+// Fills `part` from standard input; false if it ends before.
+fn take(part: &mut [u8]) -> bool {
+    let n = part.len();
+    if n == 0 {
+        return true;
+    }
+    io::read_full(STDIN_FILENO, part) == n
+}
+
+// So many octets at the start of `room`; bad if it has fewer.
+fn within(n: usize, room: &[u8]) -> Found
+    ensures { λ r. ⌜ Counts (r .count) (now (room .entry)) ⌝ }
+{
+    if room.len() < n {
+        return bad();
+    }
+    counted(n)
+}
+
+// The count of a source, or of an output, for which there is room.
+fn take_size(room: &[u8]) -> Found
+    ensures { λ r. ⌜ Counts (r .count) (now (room .entry)) ⌝ }
+{
+    let mut four = [0u8; 4];
+    if !take(&mut four) {
+        return bad();
+    }
+    within(be32(&four, 0) as usize, room)
+}
+
+// The octets of a source, at the start of `src`.
+fn take_source(src: &mut [u8]) -> Found
+    ensures { λ r. ⌜ Counts (r .count) (now (src .exit)) ⌝ }
+{
+    let size = take_size(src);
+    if size.is_bad {
+        return bad();
+    }
+    let n = size.count;
+    if !take(&mut src[..n]) {
+        return bad();
+    }
+    within(n, src)
+}
+
+// The numbers of a table, four octets each.
+fn put_numbers(octets: &[u8], table: &mut [u32])
+    requires { ⌜ (length (now octets) ≡ 1960) × (length (now table) ≡ 490) ⌝ }
+    ensures { λ r. ⌜ now (table .exit) ≡ chunks be 4 490 (now (octets .entry)) ⌝ }
+{
+    let mut i: usize = 0;
+    while i < 490 {
+        table[i] = be32(octets, 4 * i);
+        i += 1;
+    }
+}
+
+// A table from outside; false if it is cut or not exact.
+fn take_table(table: &mut [u32]) -> bool
+    requires { ⌜ length (now table) ≡ 490 ⌝ }
+{
+    let mut octets = [0u8; 1960];
+    if !take(&mut octets) {
+        return false;
+    }
+    put_numbers(&octets, table);
+    is_exact(table)
+}
+
+fn fill(out: &mut [u8])
+    ensures { λ r. ⌜ now (out .exit) ≡ replicate (length (now (out .entry))) 165 ⌝ }
+{
+    let n = out.len();
+    let mut i: usize = 0;
+    while i < n {
+        out[i] = BEFORE;
+        i += 1;
+    }
+}
+
+// ---- one function for each op
+
+// The line of a reading; a table of zeros is lent to it, so that its unused entries are zero.
+fn read_line(is_whole: bool, src: &[u8], table: &mut [u32], line: &mut [u8]) -> usize
+    requires { ⌜ (length (now table) ≡ 490) × (length (now line) ≡ 150000) ⌝ }
+    ensures { λ r. ⌜ r ≤ 149999 ⌝ }
+{
+    clear(table);
+    let answer = read_by(is_whole, src, table);
+    let at = put_answer(line, 0, answer);
+    put_table(line, at, table)
+}
+
+fn read_by(is_whole: bool, src: &[u8], table: &mut [u32]) -> Answer
+    requires { ⌜ length (now table) ≡ 490 ⌝ }
+{
+    if is_whole {
+        return read_whole_into(src, table);
+    }
+    read_leading_into(src, table)
+}
+
+fn answer_reading(is_whole: bool, table: &mut [u32], src: &mut [u8], line: &mut [u8]) -> Found
+    requires { ⌜ (length (now table) ≡ 490) × (length (now src) ≡ 70000) × (length (now line) ≡ 150000) ⌝ }
+    ensures { λ r. ⌜ r .count ≤ 149999 ⌝ }
+{
+    let taken = take_source(src);
+    if taken.is_bad {
+        return bad();
+    }
+    let n = taken.count;
+    counted(read_line(is_whole, &src[..n], table, line))
+}
+
+fn answer_length(table: &mut [u32], src: &mut [u8], line: &mut [u8]) -> Found
+    requires { ⌜ (length (now table) ≡ 490) × (length (now src) ≡ 70000) × (length (now line) ≡ 150000) ⌝ }
+    ensures { λ r. ⌜ r .count ≤ 149999 ⌝ }
+{
+    if !take_table(table) {
+        return bad();
+    }
+    let taken = take_source(src);
+    if taken.is_bad {
+        return bad();
+    }
+    let n = taken.count;
+    let answer = length_from(table, &src[..n]);
+    counted(put_answer(line, 0, answer))
+}
+
+// The line of a writing into an output that held the same octet throughout.
+fn written_line(answer: Answer, out: &[u8], line: &mut [u8]) -> usize
+    requires { ⌜ (length (now out) ≤ 70000) × (length (now line) ≡ 150000) ⌝ }
+    ensures { λ r. ⌜ r ≤ 149999 ⌝ }
+{
+    let at = put_answer(line, 0, answer);
+    put_output(line, at, out)
+}
+
+fn write_line(table: &[u32], src: &[u8], out: &mut [u8], line: &mut [u8]) -> usize
+    requires { ⌜ (length (now table) ≡ 490) × (length (now out) ≤ 70000) × (length (now line) ≡ 150000) ⌝ }
+    ensures { λ r. ⌜ r ≤ 149999 ⌝ }
+{
+    fill(out);
+    let answer = write_from(table, src, out);
+    written_line(answer, out, line)
+}
+
+fn answer_writing(table: &mut [u32], src: &mut [u8], out: &mut [u8], line: &mut [u8]) -> Found
+    requires { ⌜ (length (now table) ≡ 490) × (length (now src) ≡ 70000) × (length (now out) ≡ 70000) × (length (now line) ≡ 150000) ⌝ }
+    ensures { λ r. ⌜ r .count ≤ 149999 ⌝ }
+{
+    if !take_table(table) {
+        return bad();
+    }
+    let room = take_size(out);
+    if room.is_bad {
+        return bad();
+    }
+    let m = room.count;
+    let taken = take_source(src);
+    if taken.is_bad {
+        return bad();
+    }
+    let n = taken.count;
+    counted(write_line(table, &src[..n], &mut out[..m], line))
+}
+
+fn answer_kind(src: &mut [u8], line: &mut [u8]) -> Found
+    requires { ⌜ (length (now src) ≡ 70000) × (length (now line) ≡ 150000) ⌝ }
+    ensures { λ r. ⌜ r .count ≤ 149999 ⌝ }
+{
+    let taken = take_source(src);
+    if taken.is_bad {
+        return bad();
+    }
+    let n = taken.count;
+    let kind = object_kind(&src[..n]);
+    counted(put_kind(line, 0, kind))
+}
+
+fn answer_tap(src: &mut [u8], line: &mut [u8]) -> Found
+    requires { ⌜ (length (now src) ≡ 70000) × (length (now line) ≡ 150000) ⌝ }
+    ensures { λ r. ⌜ r .count ≤ 149999 ⌝ }
+{
+    let mut two = [0u8; 2];
+    if !take(&mut two) {
+        return bad();
+    }
+    let taken = take_source(src);
+    if taken.is_bad {
+        return bad();
+    }
+    let n = taken.count;
+    let numbers = tap_numbers(be16(&two, 0), &src[..n]);
+    counted(put_tap(line, 0, numbers))
+}
+
+fn answer_name(src: &mut [u8], line: &mut [u8]) -> Found
+    requires { ⌜ (length (now src) ≡ 70000) × (length (now line) ≡ 150000) ⌝ }
+    ensures { λ r. ⌜ r .count ≤ 149999 ⌝ }
+{
+    let taken = take_source(src);
+    if taken.is_bad {
+        return bad();
+    }
+    let n = taken.count;
+    let name = read_short_name(&src[..n]);
+    counted(put_name(line, 0, name))
+}
+
+// The name whose two views stand in sixteen octets.
+fn name_of(octets: &[u8]) -> NameComponent
+    requires { ⌜ length (now octets) ≡ 16 ⌝ }
+{
+    let id = View {
+        at: be32(octets, 0),
+        len: be32(octets, 4),
+    };
+    let kind = View {
+        at: be32(octets, 8),
+        len: be32(octets, 12),
+    };
+    NameComponent { id, kind }
+}
+
+fn write_name_line(name: NameComponent, src: &[u8], out: &mut [u8], line: &mut [u8]) -> usize
+    requires { ⌜ (length (now out) ≤ 70000) × (length (now line) ≡ 150000) ⌝ }
+    ensures { λ r. ⌜ r ≤ 149999 ⌝ }
+{
+    fill(out);
+    let answer = write_short_name(name, src, out);
+    written_line(answer, out, line)
+}
+
+fn answer_name_writing(src: &mut [u8], out: &mut [u8], line: &mut [u8]) -> Found
+    requires { ⌜ (length (now src) ≡ 70000) × (length (now out) ≡ 70000) × (length (now line) ≡ 150000) ⌝ }
+    ensures { λ r. ⌜ r .count ≤ 149999 ⌝ }
+{
+    let mut views = [0u8; 16];
+    if !take(&mut views) {
+        return bad();
+    }
+    let name = name_of(&views);
+    let room = take_size(out);
+    if room.is_bad {
+        return bad();
+    }
+    let m = room.count;
+    let taken = take_source(src);
+    if taken.is_bad {
+        return bad();
+    }
+    let n = taken.count;
+    counted(write_name_line(name, &src[..n], &mut out[..m], line))
+}
+
+fn answer_first(table: &mut [u32], line: &mut [u8]) -> Found
+    requires { ⌜ (length (now table) ≡ 490) × (length (now line) ≡ 150000) ⌝ }
+    ensures { λ r. ⌜ r .count ≤ 149999 ⌝ }
+{
+    if !take_table(table) {
+        return bad();
+    }
+    let first = first_biop(tables_of(table));
+    counted(put_first(line, 0, first))
+}
+
+fn answer_address(line: &mut [u8]) -> Found
+    requires { ⌜ length (now line) ≡ 150000 ⌝ }
+    ensures { λ r. ⌜ r .count ≤ 149999 ⌝ }
+{
+    let mut address = [0u8; 20];
+    if !take(&mut address) {
+        return bad();
+    }
+    if is_dvb(address) {
+        return counted(put_word(line, 0, b"yes"));
+    }
+    counted(put_word(line, 0, b"no"))
+}
+
+fn answer(op: u8, table: &mut [u32], src: &mut [u8], out: &mut [u8], line: &mut [u8]) -> Found
+    requires { ⌜ (length (now table) ≡ 490) × (length (now src) ≡ 70000) × (length (now out) ≡ 70000) × (length (now line) ≡ 150000) ⌝ }
+    ensures { λ r. ⌜ r .count ≤ 149999 ⌝ }
+{
+    match op {
+        1 => answer_reading(false, table, src, line),
+        2 => answer_reading(true, table, src, line),
+        3 => answer_length(table, src, line),
+        4 => answer_writing(table, src, out, line),
+        5 => answer_kind(src, line),
+        6 => answer_tap(src, line),
+        7 => answer_name(src, line),
+        8 => answer_name_writing(src, out, line),
+        9 => answer_first(table, line),
+        10 => answer_address(line),
+        _ => bad(),
+    }
+}
+
+// ---- one request after the other
+
+// One request; false at the end of the input, after a bad request, and where nothing can be written.
+fn serve(table: &mut [u32], src: &mut [u8], out: &mut [u8], line: &mut [u8]) -> bool
+    requires { ⌜ (length (now table) ≡ 490) × (length (now src) ≡ 70000) × (length (now out) ≡ 70000) × (length (now line) ≡ 150000) ⌝ }
+{
+    let mut op = [0u8; 1];
+    if !take(&mut op) {
+        return false;
+    }
+    let answered = answer(op[0], table, src, out, line);
+    if answered.is_bad {
+        io::write_all(STDOUT_FILENO, b"bad request\n");
+        return false;
+    }
+    let n = answered.count;
+    let end = put_octet(line, n, b'\n');
+    io::write_all(STDOUT_FILENO, &line[..end])
+}
+
+// A proved loop has to end, and nothing says that the input does: it counts its turns down from a number that no run uses up.
+fn serve_all(table: &mut [u32], src: &mut [u8], out: &mut [u8], line: &mut [u8])
+    requires { ⌜ (length (now table) ≡ 490) × (length (now src) ≡ 70000) × (length (now out) ≡ 70000) × (length (now line) ≡ 150000) ⌝ }
+{
+    let mut turns = u64::MAX;
+    while turns > 0 && serve(table, src, out, line) {
+        turns -= 1;
+    }
+}
+
+fn main() {
+    let mut table = [0u32; 490];
+    let mut src = [0u8; 70000];
+    let mut out = [0u8; 70000];
+    let mut line = [0u8; 150000];
+    serve_all(&mut table, &mut src, &mut out, &mut line);
+}
