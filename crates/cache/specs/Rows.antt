@@ -1,0 +1,65 @@
+-- The listing of a cache as text (document 01, "Cache listing"): a heading, a row for each record, and a last line. Assumes nothing.
+use Prim.Native.Nat.{ℕ, zero, suc, _+_, _-_}
+use mathlib.Core.List.{List, [], _∷_, _++_}
+use lib.ListN.{length, take}
+use Rattle.octets.specs.Octets.{part, octets}
+use Rattle.text.specs.Text.{decimal, hexes}
+use Rattle.reference.specs.Meaning.{Reference}
+use Rattle.reference.specs.Reader.{Answer, ok, refused, readWhole}
+use Rattle.reference.specs.Questions.{Kind, directory, file, stream, serviceGateway, streamEvent, unknown, kindOf, dir, fil, str, srg, ste}
+use Rattle.cache.specs.declared.Record.{Record}
+use Rattle.cache.specs.declared.Record.the-variants.{Got, Broken, End}
+use Rattle.cache.specs.Records.{recordAt}
+
+-- three letters, or eight lowercase hexadecimal digits
+abbrev pub kindText : Kind → List ℕ
+kindText directory = take 3 dir
+kindText file = take 3 fil
+kindText stream = take 3 str
+kindText serviceGateway = take 3 srg
+kindText streamEvent = take 3 ste
+kindText (unknown n) = hexes (octets 4 n)
+
+-- kind, number of profiles and 0
+unfoldable pub foundText : Kind → ℕ → List ℕ
+foundText k n = kindText k ++ (32 ∷ decimal n) ++ (32 ∷ 48 ∷ [])
+
+-- `- -` and the refusal's number
+unfoldable pub refusedText : ℕ → List ℕ
+refusedText n = (45 ∷ 32 ∷ 45 ∷ []) ++ (32 ∷ decimal n)
+
+unfoldable pub answerText : Answer Reference → List ℕ
+answerText (ok m n) = foundText (kindOf (m .typeId)) (length (m .profiles))
+answerText (refused x) = refusedText (x .number)
+
+-- the row of record k, whose reference is s: its number, how many octets it has, and what the reader answers of it
+unfoldable pub rowOf : ℕ → List ℕ → List ℕ
+rowOf k s = decimal k ++ (32 ∷ decimal (length s)) ++ (32 ∷ []) ++ answerText (readWhole s) ++ (10 ∷ [])
+
+-- `record bytes kind profiles refusal`
+abbrev pub heading : List ℕ
+heading =
+    0x72 ∷ 0x65 ∷ 0x63 ∷ 0x6F ∷ 0x72 ∷ 0x64 ∷ 0x20 ∷ 0x62 ∷ 0x79 ∷ 0x74 ∷ 0x65 ∷ 0x73 ∷ 0x20 ∷ 0x6B ∷ 0x69 ∷ 0x6E ∷ 0x64 ∷ 0x20
+    ∷ 0x70 ∷ 0x72 ∷ 0x6F ∷ 0x66 ∷ 0x69 ∷ 0x6C ∷ 0x65 ∷ 0x73 ∷ 0x20 ∷ 0x72 ∷ 0x65 ∷ 0x66 ∷ 0x75 ∷ 0x73 ∷ 0x61 ∷ 0x6C ∷ 0x0A ∷ []
+
+-- `end`, and how many records there were
+unfoldable pub endText : ℕ → List ℕ
+endText k = (0x65 ∷ 0x6E ∷ 0x64 ∷ []) ++ (32 ∷ decimal k) ++ (10 ∷ [])
+
+-- `broken at`, and where the mark stands or should
+unfoldable pub brokenText : ℕ → List ℕ
+brokenText at = (0x62 ∷ 0x72 ∷ 0x6F ∷ 0x6B ∷ 0x65 ∷ 0x6E ∷ 0x20 ∷ 0x61 ∷ 0x74 ∷ []) ++ (32 ∷ decimal at) ++ (10 ∷ [])
+
+-- the lines from place `at` on, after k records; a cache of n octets has at most n records
+abbrev pub lineAt : Record → ℕ → ℕ → (ℕ → ℕ → List ℕ) → List ℕ → List ℕ
+lineAt (Got start stop) k at more l = rowOf (suc k) (part l start (stop - start)) ++ more (suc k) stop
+lineAt Broken k at more l = brokenText at
+lineAt End k at more l = endText k
+
+unfoldable pub linesFrom : ℕ → List ℕ → ℕ → ℕ → List ℕ
+linesFrom zero l k at = []
+linesFrom (suc n) l k at = lineAt (recordAt l at) k at (linesFrom n l) l
+
+-- the whole output
+unfoldable pub listed : List ℕ → List ℕ
+listed l = heading ++ linesFrom (suc (length l)) l 0 0

@@ -1,0 +1,152 @@
+// Marked records of a cache, and the rows of its listing as octets.
+ghost use mathlib.Core.Path.{_≡_};
+ghost use Prim.Native.Nat.{_+_, _≤_};
+ghost use lib.ListN.{length};
+ghost use Rattle.text.specs.Written.{Written};
+ghost use Rattle.reference.specs.Reader.{readWhole};
+ghost use Rattle.questions.specs.Told.{kindTold};
+ghost use Rattle.cache.specs.Records.{recordAt, announced};
+ghost use Rattle.cache.specs.Rows.{heading, rowOf, endText, brokenText, kindText, foundText, refusedText, answerText};
+use octets::be16;
+use questions::ObjectKind;
+use questions::object_kind;
+use reading::read_whole;
+use reference::Answer;
+use text::put_decimal;
+use text::put_hex32;
+use text::put_octet;
+use text::put_spaced;
+use text::put_word;
+
+// The octets 4F 52 that begin a record, as a number.
+const MARK: u16 = 0x4F52;
+
+// What stands at a place of a cache: a record, whose reference begins at `start` and ends before `stop`, where the next record begins;
+// a wrong mark or a cut record; or nothing, at the end.
+pub enum Record {
+    Got { start: usize, stop: usize },
+    Broken,
+    End,
+}
+
+// The record whose mark stands at `at`.
+pub fn record_at(file: &[u8], at: usize) -> Record
+    ensures { λ r. ⌜ r ≡ recordAt (now (file .entry)) at ⌝ }
+{
+    let end = file.len();
+    if end <= at {
+        return Record::End;
+    }
+    if end - at < 4 {
+        return Record::Broken;
+    }
+    if be16(file, at) != MARK {
+        return Record::Broken;
+    }
+    let n = be16(file, at + 2) as usize;
+    if end - at - 4 < n {
+        return Record::Broken;
+    }
+    Record::Got {
+        start: at + 4,
+        stop: at + 4 + n,
+    }
+}
+
+// How many octets a record's first four announce behind them: 0 where `head` is shorter or has a wrong mark.
+pub fn announced_by(head: &[u8]) -> u16
+    ensures { λ r. ⌜ r ≡ announced (now (head .entry)) ⌝ }
+{
+    if head.len() < 4 {
+        return 0;
+    }
+    if be16(head, 0) != MARK {
+        return 0;
+    }
+    be16(head, 2)
+}
+
+fn put_kind(kind: ObjectKind, out: &mut [u8], at: usize) -> usize
+    requires { ⌜ at + 8 ≤ length (now out) ⌝ }
+    ensures { λ r. ⌜ Written (now (out .entry)) at 8 (kindText (kindTold kind)) (now (out .exit)) r ⌝ }
+{
+    match kind {
+        ObjectKind::Directory => put_word(out, at, b"dir"),
+        ObjectKind::File => put_word(out, at, b"fil"),
+        ObjectKind::Stream => put_word(out, at, b"str"),
+        ObjectKind::ServiceGateway => put_word(out, at, b"srg"),
+        ObjectKind::StreamEvent => put_word(out, at, b"ste"),
+        ObjectKind::Unknown(n) => put_hex32(out, at, n),
+    }
+}
+
+// What an accepted reference's row says: kind, number of profiles and 0.
+fn put_found(kind: ObjectKind, profiles: u32, out: &mut [u8], at: usize) -> usize
+    requires { ⌜ at + 31 ≤ length (now out) ⌝ }
+    ensures { λ r. ⌜ Written (now (out .entry)) at 31 (foundText (kindTold kind) profiles) (now (out .exit)) r ⌝ }
+{
+    let count = put_kind(kind, out, at);
+    let zero = put_spaced(out, count, profiles as u64);
+    put_word(out, zero, b" 0")
+}
+
+// What a refused one's says: `- -` and the refusal's number.
+fn put_refused(number: u8, out: &mut [u8], at: usize) -> usize
+    requires { ⌜ at + 31 ≤ length (now out) ⌝ }
+    ensures { λ r. ⌜ Written (now (out .entry)) at 31 (refusedText number) (now (out .exit)) r ⌝ }
+{
+    let next = put_word(out, at, b"- -");
+    put_spaced(out, next, number as u64)
+}
+
+fn put_answer(s: &[u8], out: &mut [u8], at: usize) -> usize
+    requires { ⌜ at + 31 ≤ length (now out) ⌝ }
+    ensures { λ r. ⌜ Written (now (out .entry)) at 31 (answerText (readWhole (now (s .entry)))) (now (out .exit)) r ⌝ }
+{
+    let reading = read_whole(s);
+    let answer = reading.answer;
+    match answer {
+        Answer::Refused(why) => put_refused(why.number, out, at),
+        Answer::Count(_) => {
+            let tables = reading.tables;
+            let start = tables.type_id.at as usize;
+            let stop = start + tables.type_id.len as usize;
+            let kind = object_kind(&s[start..stop]);
+            put_found(kind, tables.profiles_used, out, at)
+        }
+    }
+}
+
+// The row of record `number`, whose reference is s, at the start of `out`: how many octets the row has. Any line of the listing fits 80.
+pub fn put_row(number: u64, s: &[u8], out: &mut [u8; 80]) -> usize
+    ensures { λ r. ⌜ Written (now (out .entry)) 0 80 (rowOf number (now (s .entry))) (now (out .exit)) r ⌝ }
+{
+    let size = put_decimal(out, 0, number);
+    let gap = put_spaced(out, size, s.len() as u64);
+    let kind = put_octet(out, gap, b' ');
+    let end = put_answer(s, out, kind);
+    put_octet(out, end, b'\n')
+}
+
+// The listing's first line, and its last, after so many records or where a mark is wrong or a record cut.
+pub fn put_heading(out: &mut [u8; 80]) -> usize
+    ensures { λ r. ⌜ Written (now (out .entry)) 0 80 heading (now (out .exit)) r ⌝ }
+{
+    put_word(out, 0, b"record bytes kind profiles refusal\n")
+}
+
+pub fn put_end(count: u64, out: &mut [u8; 80]) -> usize
+    ensures { λ r. ⌜ Written (now (out .entry)) 0 80 (endText count) (now (out .exit)) r ⌝ }
+{
+    let number = put_word(out, 0, b"end");
+    let end = put_spaced(out, number, count);
+    put_octet(out, end, b'\n')
+}
+
+pub fn put_broken(at: u64, out: &mut [u8; 80]) -> usize
+    ensures { λ r. ⌜ Written (now (out .entry)) 0 80 (brokenText at) (now (out .exit)) r ⌝ }
+{
+    let number = put_word(out, 0, b"broken at");
+    let end = put_spaced(out, number, at);
+    put_octet(out, end, b'\n')
+}
