@@ -1,4 +1,4 @@
--- `answers::fill` meets its contract. Assumes nothing.
+-- `answers::fill` meets its contract. The loop's invariant: the first i octets were replaced. Assumes nothing.
 use Prim.Native.Nat.{_-_}
 use mathlib.Core.Path.{_≡_, refl}
 use native.Mathlib.Omega.{arith}

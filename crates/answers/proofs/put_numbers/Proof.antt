@@ -1,4 +1,4 @@
--- `answers::put_numbers` meets its contract. Assumes nothing.
+-- `answers::put_numbers` meets its contract. The loop's invariant: the first i numbers were replaced. Assumes nothing.
 use Prim.Native.Nat.{_-_}
 use native.Mathlib.Omega.{arith}
 use Rattle.octets.specs.Octets.{be}

@@ -1,4 +1,4 @@
--- `answers::serve` meets its contract. Assumes nothing.
+-- `answers::serve` is safe and ends: a line and its end have room. Assumes nothing.
 use mathlib.Core.Path.{sym}
 use native.Mathlib.Omega.{arith}
 use lib.Seq.{length-take-le}

@@ -1,4 +1,4 @@
--- `answers::serve_all` meets its contract. Assumes nothing.
+-- `answers::serve_all` is safe and ends: the slices keep their lengths, and the turns that are left fall. Assumes nothing.
 use mathlib.Core.Path.{_≡_}
 use native.Mathlib.Omega.{arith}
 use lib.ListN.{length}
