@@ -1,4 +1,4 @@
--- `exact::is_profile_exact` meets its contract. Assumes nothing.
+-- `exact::is_profile_exact` meets its contract, sort by sort. Assumes nothing.
 use Prim.Native.Nat.{ℕ}
 use mathlib.Core.Path.{sym, ap, _∙_}
 use native.Mathlib.Omega.{arith}
