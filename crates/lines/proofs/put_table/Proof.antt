@@ -1,4 +1,4 @@
--- `lines::put_table` meets its contract. Assumes nothing.
+-- `lines::put_table` meets its contract. The loop's invariant: the text of the first i numbers was put. Assumes nothing.
 use Prim.Native.Nat.{_+_, _*_, _-_, _≤_}
 use mathlib.Core.Path.{_≡_, refl, ap, _∙_}
 use native.Mathlib.Omega.{arith}
