@@ -17,7 +17,17 @@ const RECORD: usize = 65539;
 // The largest offset that a file can have.
 const FARTHEST: u64 = 0x7FFFFFFFFFFFFFFF;
 
-// Reads a record's first four octets and as many as they announce into the start of `room`: how many came.
+// Reads as many octets as a record's first four announce, behind them: how many there are then.
+fn fetch_rest(fd: i32, room: &mut [u8]) -> usize
+    requires { ⌜ 65539 ≤ length (now room) ⌝ }
+    ensures { λ r. ⌜ r ≤ 65539 ⌝ }
+{
+    let end = 4 + announced_by(&room[..4]) as usize;
+    let more = io::read_full(fd, &mut room[4..end]);
+    4 + more
+}
+
+// Reads a record into the start of `room`: how many octets came.
 fn fetch(fd: i32, room: &mut [u8]) -> usize
     requires { ⌜ 65539 ≤ length (now room) ⌝ }
     ensures { λ r. ⌜ r ≤ 65539 ⌝ }
@@ -26,43 +36,65 @@ fn fetch(fd: i32, room: &mut [u8]) -> usize
     if got < 4 {
         return got;
     }
-    let end = 4 + announced_by(&room[..4]) as usize;
-    let more = io::read_full(fd, &mut room[4..end]);
-    4 + more
+    fetch_rest(fd, room)
 }
 
-// Lists the record at `at`, which comes after `seen` others: how many octets it has, or 0 where the listing ends.
-fn list_one(fd: i32, room: &mut [u8], seen: u64, at: u64) -> usize
-    requires { ⌜ (65539 ≤ length (now room)) × (seen < 0x7FFFFFFFFFFFFFFF) ⌝ }
-    ensures { λ r. ⌜ r ≤ 65539 ⌝ }
+fn write_start(line: &[u8], n: usize)
+    requires { ⌜ n ≤ length (now line) ⌝ }
+{
+    io::write_all(STDOUT_FILENO, &line[..n]);
+}
+
+fn write_line(line: &[u8; 80], n: usize)
+    requires { ⌜ n ≤ 80 ⌝ }
+{
+    write_start(line, n);
+}
+
+// Lists the record s, which stands at `at` and comes after `seen` others: how many octets it has, or 0 where the listing ends.
+fn list_record(s: &[u8], seen: u64, at: u64) -> usize
+    requires { ⌜ seen < 0x7FFFFFFFFFFFFFFF ⌝ }
+    ensures { λ r. ⌜ r ≤ length (now (s .entry)) ⌝ }
 {
     let mut line = [0u8; 80];
-    let n = fetch(fd, room);
-    match record_at(&room[..n], 0) {
+    match record_at(s, 0) {
         Record::Got { start, stop } => {
-            let k = put_row(seen + 1, &room[start..stop], &mut line);
-            io::write_all(STDOUT_FILENO, &line[..k]);
+            let k = put_row(seen + 1, &s[start..stop], &mut line);
+            write_line(&line, k);
             stop
         }
         Record::Broken => {
             let k = put_broken(at, &mut line);
-            io::write_all(STDOUT_FILENO, &line[..k]);
+            write_line(&line, k);
             0
         }
         Record::End => {
             let k = put_end(seen, &mut line);
-            io::write_all(STDOUT_FILENO, &line[..k]);
+            write_line(&line, k);
             0
         }
     }
 }
 
+// Fetches and lists one record.
+fn list_one(fd: i32, room: &mut [u8], seen: u64, at: u64) -> usize
+    requires { ⌜ (65539 ≤ length (now room)) × (seen < 0x7FFFFFFFFFFFFFFF) ⌝ }
+    ensures { λ r. ⌜ r ≤ 65539 ⌝ }
+{
+    let n = fetch(fd, room);
+    list_record(&room[..n], seen, at)
+}
+
+fn write_heading() {
+    let mut line = [0u8; 80];
+    let k = put_heading(&mut line);
+    write_line(&line, k);
+}
+
 // Lists what comes from `fd`, however long it is. A read that fails counts as the end.
 pub fn list(fd: i32) {
     let mut room = [0u8; RECORD];
-    let mut line = [0u8; 80];
-    let k = put_heading(&mut line);
-    io::write_all(STDOUT_FILENO, &line[..k]);
+    write_heading();
     let mut seen: u64 = 0;
     let mut at: u64 = 0;
     while at < FARTHEST {
