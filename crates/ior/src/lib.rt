@@ -21,6 +21,12 @@ use reference::NameComponent;
 use reference::Reading;
 use reference::Tables;
 
+// A table of 490 numbers; crate table says which number is what.
+pub type FlatTable = [u32; 490];
+
+// An address's octets, handed over by value.
+pub type AddressOctets = [u8; 20];
+
 // ---- reading: a slice to tables
 
 // Reads the reference that `s` begins with: how many octets it has, and its tables, whose views show `s`. Refuses with 6, then 1 to 4 as
@@ -40,13 +46,13 @@ pub fn read_whole(s: &[u8]) -> Reading
 
 // The two readings into a table of 490 numbers that the caller lends: no struct is copied. An accepted reading keeps what stands behind the
 // entries it fills; a refused one leaves zeros.
-pub fn read_leading_into(s: &[u8], table: &mut [u32; 490]) -> Answer
+pub fn read_leading_into(s: &[u8], table: &mut FlatTable) -> Answer
     ensures { λ r. ⌜ ReadInto (readLeading (now (s .entry))) (now (table .entry)) (now (table .exit)) r ⌝ }
 {
     reading::read_leading_into(s, table)
 }
 
-pub fn read_whole_into(s: &[u8], table: &mut [u32; 490]) -> Answer
+pub fn read_whole_into(s: &[u8], table: &mut FlatTable) -> Answer
     ensures { λ r. ⌜ ReadInto (readWhole (now (s .entry))) (now (table .entry)) (now (table .exit)) r ⌝ }
 {
     reading::read_whole_into(s, table)
@@ -70,13 +76,13 @@ pub fn write(t: Tables, src: &[u8], out: &mut [u8]) -> Answer
 }
 
 // The same from a table of 490 numbers that the caller lends. A number wider than its field counts by its low bits.
-pub fn length_from(table: &[u32; 490], src: &[u8]) -> Answer
+pub fn length_from(table: &FlatTable, src: &[u8]) -> Answer
     ensures { λ r. ⌜ r ≡ measured (tablesFrom (now (table .entry))) (now (src .entry)) ⌝ }
 {
     measuring::length_from(table, src)
 }
 
-pub fn write_from(table: &[u32; 490], src: &[u8], out: &mut [u8]) -> Answer
+pub fn write_from(table: &FlatTable, src: &[u8], out: &mut [u8]) -> Answer
     ensures { λ r. ⌜ Writes (tablesFrom (now (table .entry))) (now (src .entry)) (now (out .entry)) r (now (out .exit)) ⌝ }
 {
     writing::write_from(table, src, out)
@@ -106,7 +112,7 @@ pub fn first_biop(t: Tables) -> FirstBiop
 }
 
 // Whether twenty octets are a DVB address: AFI, type, specifier type and the reserved four are those of the kind.
-pub fn is_dvb(a: [u8; 20]) -> bool
+pub fn is_dvb(a: AddressOctets) -> bool
     ensures { λ r. ⌜ r ≡ dvbAddress a ⌝ }
 {
     questions::is_dvb(a)
