@@ -12,7 +12,7 @@ use Rattle.octets.proofs.Part.{length-part}
 use Rattle.reference.specs.declared.Refusal.{Refusal}
 use Rattle.reference.specs.declared.Answer.the-variants.{Count, Refused}
 use Rattle.reference.specs.Meaning.{Reference, tapsOf, namesOf, extrasOf, total}
-use Rattle.reference.specs.Reader.{Answer, ok, refused, refusal, limit, roomy, need, number, check, run, after, done, many, ending, readProfile, readReference, readWhole}
+use Rattle.reference.specs.Reader.{Answer, ok, refused, roomy, need, number, check, run, after, done, many, ending, readProfile, readReference, readWhole}
 use Rattle.reference.specs.declared.Reading.{Reading}
 use Rattle.reference.specs.declared.Tables.{Tables}
 use Rattle.reference.specs.Questions.{Kind, kindOf}
@@ -91,8 +91,8 @@ module _ (s : List ℕ) (r : Reading) (h : r ≡ answered (readWhole s)) where
     row-found {d} q =
         let m : Reference = meaning .0 in
         let shown : kindOf (part s (r .tables .«type_id» .at) (r .tables .«type_id» .at + r .tables .«type_id» .len - r .tables .«type_id» .at)) ≡ kindOf (m .typeId) =
-            subst (λ (t : Tables). kindOf (part s (t .«type_id» .at) (t .«type_id» .at + t .«type_id» .len - t .«type_id» .at)) ≡ kindOf (m .typeId)) (sym tables-are)
-            (ap (λ (n : ℕ). kindOf (part s 4 n)) (add-sub-cancel-left 4 (length (m .typeId))) ∙ ap kindOf (type-id-stands s (meaning .1) .1)) in
+        subst (λ (t : Tables). kindOf (part s (t .«type_id» .at) (t .«type_id» .at + t .«type_id» .len - t .«type_id» .at)) ≡ kindOf (m .typeId)) (sym tables-are)
+        (ap (λ (n : ℕ). kindOf (part s 4 n)) (add-sub-cancel-left 4 (length (m .typeId))) ∙ ap kindOf (type-id-stands s (meaning .1) .1)) in
         let used : r .tables .«profiles_used» ≡ length (m .profiles) =
-            ap (λ (t : Tables). t .«profiles_used») tables-are ∙ length-placed entryAt layoutProfile (length (m .typeId) + 8) (m .profiles) in
+        ap (λ (t : Tables). t .«profiles_used») tables-are ∙ length-placed entryAt layoutProfile (length (m .typeId) + 8) (m .profiles) in
         ap (λ (x : Kind). foundText x (r .tables .«profiles_used»)) (q ∙ shown) ∙ ap (foundText (kindOf (m .typeId))) used ∙ ap answerText (sym (meaning .1))

@@ -1,2 +1,4 @@
 pub mod Recorded
 pub mod Accepted
+pub mod Determined
+pub mod Worked
