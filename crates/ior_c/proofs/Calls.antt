@@ -1,0 +1,80 @@
+-- What a call tells where it is asked as it must be, and where it is not; and what it means to be asked so. Assumes nothing.
+use Prim.Native.Nat.{ℕ, _<_, _≤_}
+use mathlib.Core.Path.{_≡_, sym, ap, _∙_}
+use mathlib.Core.Bool.{Bool, true, false, _&&_}
+use mathlib.Core.Logic.{_≢_}
+use mathlib.Core.List.{List}
+use Rattle.reference.specs.declared.Answer.{Answer as Told}
+use lib.Dec.{eqb}
+use lib.ListN.{length}
+use borrow.Author.Tests.{eq-eqb, ne-eqb, eqb-true, le-leb, lt-leb}
+use Rattle.reference.proofs.Asked.{picks-first, picks-second}
+use Rattle.exact.specs.Exact.{exact}
+use Rattle.exact.proofs.Every.{and-left, and-right}
+use Rattle.ior_c.specs.Said.{numberOf, numbersOf, Tells, Gives, sized, askable, tapAsked}
+
+module _ {asked : Bool} {n : ℕ} {l a : List ℕ} where
+  pub told : {r : ℕ} {b : List ℕ} → asked ≡ true → r ≡ n → b ≡ l → Tells asked n l a r b
+  told e p q = record { result = p ∙ sym (picks-first asked n 255 e); array = q ∙ sym (picks-first asked l a e) }
+
+  pub not-told : asked ≡ false → Tells asked n l a 255 a
+  not-told e = record { result = sym (picks-second asked n 255 e); array = sym (picks-second asked l a e) }
+
+-- of an answer v that is known to be x, after its numbers were put
+pub answer-told : {asked : Bool} {x v : Told} {a : List ℕ} {r : ℕ} {b : List ℕ} → asked ≡ true → v ≡ x → (r ≡ numberOf v) × (b ≡ numbersOf v)
+    → Tells asked (numberOf x) (numbersOf x) a r b
+answer-told e h p = told e (p .0 ∙ ap numberOf h) (p .1 ∙ ap numbersOf h)
+
+module _ {asked : Bool} {x : Told} {y a d : List ℕ} where
+  pub given : {v : Told} {r : ℕ} {b e : List ℕ} → asked ≡ true → v ≡ x → (r ≡ numberOf v) × (b ≡ numbersOf v) → e ≡ y → Gives asked x y a d r b e
+  given t h p q = record { tells = answer-told t h p; leaves = q ∙ sym (picks-first asked y d t) }
+
+  pub not-given : asked ≡ false → Gives asked x y a d 255 a d
+  not-given t = record { tells = not-told t; leaves = sym (picks-second asked y d t) }
+
+-- ---- whatever code meets these contracts gives the same result and leaves the same in its arrays
+
+pub tells-determined : (asked : Bool) (n : ℕ) (l a : List ℕ) (r r′ : ℕ) (b b′ : List ℕ) → Tells asked n l a r b → Tells asked n l a r′ b′ → (r ≡ r′) × (b ≡ b′)
+tells-determined asked n l a r r′ b b′ h h′ = (h .result ∙ sym (h′ .result), h .array ∙ sym (h′ .array))
+
+pub gives-determined : (asked : Bool) (x : Told) (y a d : List ℕ) (r r′ : ℕ) (b b′ e e′ : List ℕ) → Gives asked x y a d r b e → Gives asked x y a d r′ b′ e′
+    → ((r ≡ r′) × (b ≡ b′)) × (e ≡ e′)
+gives-determined asked x y a d r r′ b b′ e e′ h h′ =
+    (tells-determined asked (numberOf x) (numbersOf x) a r r′ b b′ (h .tells) (h′ .tells), h .leaves ∙ sym (h′ .leaves))
+
+-- ---- asked as it must be
+
+module _ (n array answer : ℕ) where
+  pub not-sized : array ≢ n → sized n array answer ≡ false
+  unfolding sized
+  not-sized h = ap (λ (b : Bool). b && eqb answer 5) (ne-eqb array n h)
+
+  pub sized-by-answer : array ≡ n → sized n array answer ≡ eqb answer 5
+  unfolding sized
+  sized-by-answer e = ap (λ (b : Bool). b && eqb answer 5) (eq-eqb array n e)
+
+  pub lengths : sized n array answer ≡ true → (array ≡ n) × (answer ≡ 5)
+  unfolding sized
+  lengths e = (eqb-true array n (and-left (eqb array n) (eqb answer 5) e), eqb-true answer 5 (and-right (eqb array n) (eqb answer 5) e))
+
+module _ (t : List ℕ) (answer : ℕ) where
+  pub not-askable : sized 490 (length t) answer ≡ false → askable t answer ≡ false
+  unfolding askable
+  not-askable e = ap (λ (b : Bool). b && exact t) e
+
+  pub askable-by-table : sized 490 (length t) answer ≡ true → askable t answer ≡ exact t
+  unfolding askable
+  askable-by-table e = ap (λ (b : Bool). b && exact t) e
+
+  pub askable-lengths : askable t answer ≡ true → (length t ≡ 490) × (answer ≡ 5)
+  unfolding askable
+  askable-lengths e = lengths 490 (length t) answer (and-left (sized 490 (length t) answer) (exact t) e)
+
+module _ (uses pair : ℕ) where
+  pub wide-use : 65535 < uses → tapAsked uses pair ≡ false
+  unfolding tapAsked
+  wide-use h = ap (λ (b : Bool). b && eqb pair 2) (lt-leb uses 65535 h)
+
+  pub by-pair : uses ≤ 65535 → tapAsked uses pair ≡ eqb pair 2
+  unfolding tapAsked
+  by-pair h = ap (λ (b : Bool). b && eqb pair 2) (le-leb uses 65535 h)

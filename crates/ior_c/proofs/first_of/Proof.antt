@@ -1,0 +1,85 @@
+-- `ior_c::first_of` meets its contract. The invariant: what is left of the used profiles has the same first BIOP profile as all of them. Assumes nothing.
+use borrow.Author.Needs.{needs}
+use Rattle.reference.specs.declared.Refusal.{Refusal}
+use Rattle.reference.specs.declared.Answer.the-variants.{Refused}
+use Rattle.questions.proofs.Cases.{ahead}
+use Rattle.table.specs.Flat.{tablesFrom}
+use Rattle.reference.specs.Questions.{firstFrom, firstBiop}
+use lib.ListN.{getD}
+use Prim.Native.Nat.{_≤_, _-_}
+use Rattle.ior_c.specs.Said.{firstSaid}
+use Rattle.ior_c.proofs.Answers.{profilesIn, too-many, starts, ends, found, passed}
+use native.Mathlib.Omega.{arith}
+use mathlib.Core.Path.{_≡_, sym, ap, _∙_, refl}
+use Rattle.ior_c.proofs.first_of.Statement.{statement}
+use Rattle.ior_c.proofs.first_of.Tie as tie
+
+abbrev Inv-loop : tie.InvT-loop
+Inv-loop table used i₀ i = (i ≤ used) × (used ≡ getD table 2 0) × (used ≤ 8) × (firstBiop (tablesFrom table) ≡ firstFrom i (ahead (profilesIn table) (getD table 2 0) i))
+
+abbrev μ-loop : tie.MeasureT-loop
+μ-loop table used i₀ i = used - i
+
+shared-slice-read-used : tie.Need-shared-slice-read-used Inv-loop μ-loop
+shared-slice-read-used c = omega arith
+
+cast-used : tie.Need-cast-used Inv-loop μ-loop
+cast-used c = omega (arith, c .shared-slice-known2 .given 2)
+
+wrong-requires : tie.Need-wrong-requires Inv-loop μ-loop
+wrong-requires c κs = search needs
+
+returns : tie.Need-returns Inv-loop μ-loop
+returns c =
+    let t = c .before .before .before .before .args .table .now in
+    ap (λ (x : Refusal). Refused x) (c .wrong .ensures) ∙ sym (ap firstSaid (too-many t (c .before .if1 .taken)))
+
+loop-holds : tie.Need-loop-holds Inv-loop μ-loop
+loop-holds c =
+    let t = c .before .before .before .args .table .now in
+    (omega arith, refl, c .if1 .left, starts t (c .if1 .left))
+
+sort-at-requires : tie.Need-sort-at-requires Inv-loop μ-loop
+sort-at-requires c κs = search needs
+
+returns-2 : tie.Need-returns-2 Inv-loop μ-loop
+returns-2 c =
+    let l = c .before .before .before .loop in
+    let t = c .before .before .before .before .before .before .before .args .table .now in
+    sym (ap firstSaid (l .inv .3 ∙ found t (l .i) (omega arith) (omega arith) (sym (c .before .sort-at .ensures) ∙ c .if2 .taken)))
+
+add-i : tie.Need-add-i Inv-loop μ-loop
+add-i c = omega arith
+
+loop-less : tie.Need-loop-less Inv-loop μ-loop
+loop-less c = omega arith
+
+loop-again : tie.Need-loop-again Inv-loop μ-loop
+loop-again c =
+    let l = c .before .before .before .loop in
+    let t = c .before .before .before .before .before .before .before .args .table .now in
+    (omega arith, l .inv .1, l .inv .2, l .inv .3 ∙ passed t (l .i) (omega arith) (omega arith) (λ e. c .if2 .left (c .before .sort-at .ensures ∙ e)))
+
+returns-3 : tie.Need-returns-3 Inv-loop μ-loop
+returns-3 c =
+    let l = c .before .loop in
+    let t = c .before .before .before .before .before .args .table .now in
+    sym (ap firstSaid (l .inv .3 ∙ ends t (l .i) (omega arith)))
+
+pub first-of-spec : {M : Type 1} → statement M
+first-of-spec =
+    tie.close
+    (tie.spec
+    Inv-loop
+    μ-loop
+    shared-slice-read-used
+    cast-used
+    wrong-requires
+    returns
+    loop-holds
+    sort-at-requires
+    returns-2
+    add-i
+    loop-less
+    loop-again
+    returns-3)

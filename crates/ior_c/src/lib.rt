@@ -1,0 +1,328 @@
+// The library for firmware in C and in Rust: exported functions over numbers and octets, each lent by its caller as a pointer and a length
+// (include/ior.h). A table has 490 numbers (crate table), an answer five: number, place, both figures, and the count. An array of another length, or
+// a table with a number that is wider than its field, is answered with 255, and nothing is changed. No function asks anything of its caller.
+ghost use mathlib.Core.Path.{_≡_};
+ghost use mathlib.Core.List.{_∷_, []};
+ghost use lib.Dec.{eqb};
+ghost use lib.ListN.{length};
+ghost use Rattle.reference.specs.Questions.{kindOf, tapNumbersOf, firstBiop, dvbAddress};
+ghost use Rattle.reference.specs.Reader.{readLeading, readWhole, seen, pick};
+ghost use Rattle.reference.specs.Names.{readShortName, shortAt, shortWritten, shortLeaves};
+ghost use Rattle.reference.specs.Writer.{answered, measured, written, leaves};
+ghost use Rattle.table.specs.Flat.{tablesFrom, nameFrom, nameNumbers};
+ghost use Rattle.reading.specs.Into.{tableLeft};
+ghost use Rattle.questions.specs.Told.{kindTold, numbersTold};
+ghost use Rattle.ior_c.specs.Said.{numberOf, numbersOf, Tells, Gives, sized, askable, tapAsked, kindNumber, typeNumber, tapResult, tapPair, firstSaid, nameSaid, nameLeft, truth};
+use entries::sort_at;
+use exact::is_exact;
+use measuring::length_from;
+use names::ShortNameRead;
+use names::read_short_name;
+use names::write_short_name;
+use octets::be32;
+use octets::copy;
+use questions::ObjectKind;
+use questions::TapNumbers;
+use questions::is_dvb;
+use questions::object_kind;
+use questions::tap_numbers;
+use reading::read_leading_into;
+use reading::read_whole_into;
+use reference::Answer;
+use reference::NameComponent;
+use reference::PROFILES;
+use reference::View;
+use reference::wrong;
+use table::BIOP;
+use table::SIZE;
+use writing::write_from;
+
+// What each function answers when an array has another length than it must have, or a table is not exact.
+pub const NOT_ASKED: u32 = 255;
+
+// How many numbers an answer and a name have.
+pub const ANSWER: usize = 5;
+
+pub const NAME: usize = 4;
+
+// ---- what all of them share
+
+// Number, place, both figures and the count; the number is the result too.
+fn put_answer(a: Answer, out: &mut [u64]) -> u32
+    requires { ⌜ length (now out) ≡ 5 ⌝ }
+    ensures { λ r. ⌜ (r ≡ numberOf a) × (now (out .exit) ≡ numbersOf a) ⌝ }
+{
+    match a {
+        Answer::Count(n) => {
+            out[0] = 0;
+            out[1] = 0;
+            out[2] = 0;
+            out[3] = 0;
+            out[4] = n as u64;
+            0
+        }
+        Answer::Refused(why) => {
+            out[0] = why.number as u64;
+            out[1] = why.place as u64;
+            out[2] = why.first as u64;
+            out[3] = why.second as u64;
+            out[4] = 0;
+            why.number as u32
+        }
+    }
+}
+
+// Whether an array has `size` numbers and the answer beside it five.
+fn is_sized(size: usize, array: usize, answer: usize) -> bool
+    ensures { λ r. ⌜ r ≡ sized size array answer ⌝ }
+{
+    if array != size {
+        return false;
+    }
+    answer == ANSWER
+}
+
+// Whether a table can be measured, written or asked: both arrays are sized, and the table is exact.
+fn can_ask(table: &[u32], answer: usize) -> bool
+    ensures { λ r. ⌜ r ≡ askable (now (table .entry)) answer ⌝ }
+{
+    if is_sized(SIZE, table.len(), answer) {
+        return is_exact(table);
+    }
+    false
+}
+
+// ---- references
+
+// Reads a leading reference into the table: octets consumed, or the refusal. An accepted reading keeps what stands behind the entries it
+// fills, a refused one leaves zeros.
+#[no_mangle]
+pub extern "C" fn ior_read(s: &[u8], table: &mut [u32], answer: &mut [u64]) -> u32
+    ensures { λ r. ⌜ Gives (sized 490 (length (now (table .entry))) (length (now (answer .entry)))) (answered (readLeading (now (s .entry))) .answer) (tableLeft (readLeading (now (s .entry))) (now (table .entry))) (now (answer .entry)) (now (table .entry)) r (now (answer .exit)) (now (table .exit)) ⌝ }
+{
+    if !is_sized(SIZE, table.len(), answer.len()) {
+        return NOT_ASKED;
+    }
+    put_answer(read_leading_into(s, table), answer)
+}
+
+// The same of a whole slice: nothing may be left over.
+#[no_mangle]
+pub extern "C" fn ior_read_whole(s: &[u8], table: &mut [u32], answer: &mut [u64]) -> u32
+    ensures { λ r. ⌜ Gives (sized 490 (length (now (table .entry))) (length (now (answer .entry)))) (answered (readWhole (now (s .entry))) .answer) (tableLeft (readWhole (now (s .entry))) (now (table .entry))) (now (answer .entry)) (now (table .entry)) r (now (answer .exit)) (now (table .exit)) ⌝ }
+{
+    if !is_sized(SIZE, table.len(), answer.len()) {
+        return NOT_ASKED;
+    }
+    put_answer(read_whole_into(s, table), answer)
+}
+
+// The length of the image of the table over the source s; or 6, 8, 9 or 10.
+#[no_mangle]
+pub extern "C" fn ior_length(table: &[u32], s: &[u8], answer: &mut [u64]) -> u32
+    ensures { λ r. ⌜ Tells (askable (now (table .entry)) (length (now (answer .entry)))) (numberOf (measured (tablesFrom (now (table .entry))) (now (s .entry)))) (numbersOf (measured (tablesFrom (now (table .entry))) (now (s .entry)))) (now (answer .entry)) r (now (answer .exit)) ⌝ }
+{
+    if !can_ask(table, answer.len()) {
+        return NOT_ASKED;
+    }
+    put_answer(length_from(table, s), answer)
+}
+
+// Writes the image of the table over the source s at the start of `out`: its length, or the refusal, which leaves `out` as it is.
+#[no_mangle]
+pub extern "C" fn ior_write(table: &[u32], s: &[u8], out: &mut [u8], answer: &mut [u64]) -> u32
+    ensures { λ r. ⌜ Gives (askable (now (table .entry)) (length (now (answer .entry)))) (written (tablesFrom (now (table .entry))) (now (s .entry)) (now (out .entry))) (leaves (tablesFrom (now (table .entry))) (now (s .entry)) (now (out .entry))) (now (answer .entry)) (now (out .entry)) r (now (answer .exit)) (now (out .exit)) ⌝ }
+{
+    if !can_ask(table, answer.len()) {
+        return NOT_ASKED;
+    }
+    put_answer(write_from(table, s, out), answer)
+}
+
+// ---- questions
+
+// The number of a kind: dir, fil, str, srg, ste, unknown.
+fn kind_number(kind: ObjectKind) -> u32
+    ensures { λ r. ⌜ r ≡ kindNumber (kindTold kind) ⌝ }
+{
+    match kind {
+        ObjectKind::Directory => 0,
+        ObjectKind::File => 1,
+        ObjectKind::Stream => 2,
+        ObjectKind::ServiceGateway => 3,
+        ObjectKind::StreamEvent => 4,
+        ObjectKind::Unknown(_) => 5,
+    }
+}
+
+// The four octets of a type id as a number; 0 of one that has another length.
+fn type_number(type_id: &[u8]) -> u32
+    ensures { λ r. ⌜ r ≡ typeNumber (now («type_id» .entry)) ⌝ }
+{
+    if type_id.len() == 4 {
+        return be32(type_id, 0);
+    }
+    0
+}
+
+// The kind that a type id's octets name: 0 to 4, or 5 for unknown; kind[0] is the type id as a number.
+#[no_mangle]
+pub extern "C" fn ior_kind(type_id: &[u8], kind: &mut [u32]) -> u32
+    ensures { λ r. ⌜ Tells (eqb (length (now (kind .entry))) 1) (kindNumber (kindOf (now («type_id» .entry)))) (typeNumber (now («type_id» .entry)) ∷ []) (now (kind .entry)) r (now (kind .exit)) ⌝ }
+{
+    if kind.len() != 1 {
+        return NOT_ASKED;
+    }
+    kind[0] = type_number(type_id);
+    kind_number(object_kind(type_id))
+}
+
+// The two numbers in an array of two; 1 if the tap has them, 0 if it has neither, and zeros then.
+fn put_pair(found: TapNumbers, pair: &mut [u32]) -> u32
+    requires { ⌜ length (now pair) ≡ 2 ⌝ }
+    ensures { λ r. ⌜ (r ≡ tapResult (numbersTold found)) × (now (pair .exit) ≡ tapPair (numbersTold found)) ⌝ }
+{
+    match found {
+        TapNumbers::Both {
+            transaction,
+            timeout,
+        } => {
+            pair[0] = transaction;
+            pair[1] = timeout;
+            1
+        }
+        TapNumbers::Neither => {
+            pair[0] = 0;
+            pair[1] = 0;
+            0
+        }
+    }
+}
+
+// Whether a tap of this use, with this selector, has a transaction id and a timeout, and the two. A use over 16 bits is answered with 255.
+#[no_mangle]
+pub extern "C" fn ior_tap(uses: u32, selector: &[u8], pair: &mut [u32]) -> u32
+    ensures { λ r. ⌜ Tells (tapAsked uses (length (now (pair .entry)))) (tapResult (tapNumbersOf uses (now (selector .entry)))) (tapPair (tapNumbersOf uses (now (selector .entry)))) (now (pair .entry)) r (now (pair .exit)) ⌝ }
+{
+    if 65535 < uses {
+        return NOT_ASKED;
+    }
+    if pair.len() != 2 {
+        return NOT_ASKED;
+    }
+    put_pair(tap_numbers(uses as u16, selector), pair)
+}
+
+// The index of the first BIOP profile among the used ones, or 8 where there is none; refused with 8 if more are used than the table has.
+fn first_of(table: &[u32]) -> Answer
+    requires { ⌜ length (now table) ≡ 490 ⌝ }
+    ensures { λ r. ⌜ r ≡ firstSaid (firstBiop (tablesFrom (now (table .entry)))) ⌝ }
+{
+    let used = table[2] as usize;
+    if PROFILES < used {
+        return Answer::Refused(wrong(8, 40));
+    }
+    let mut i: usize = 0;
+    while i < used {
+        if sort_at(table, i) == BIOP {
+            return Answer::Count(i);
+        }
+        i += 1;
+    }
+    Answer::Count(PROFILES)
+}
+
+#[no_mangle]
+pub extern "C" fn ior_first_biop(table: &[u32], answer: &mut [u64]) -> u32
+    ensures { λ r. ⌜ Tells (askable (now (table .entry)) (length (now (answer .entry)))) (numberOf (firstSaid (firstBiop (tablesFrom (now (table .entry)))))) (numbersOf (firstSaid (firstBiop (tablesFrom (now (table .entry)))))) (now (answer .entry)) r (now (answer .exit)) ⌝ }
+{
+    if !can_ask(table, answer.len()) {
+        return NOT_ASKED;
+    }
+    put_answer(first_of(table), answer)
+}
+
+// Whether an address bears the four constants of its kind: 1 or 0; 255 if it has not twenty octets.
+#[no_mangle]
+pub extern "C" fn ior_dvb_address(address: &[u8]) -> u32
+    ensures { λ r. ⌜ r ≡ pick (eqb (length (now (address .entry))) 20) (truth (dvbAddress (now (address .entry)))) 255 ⌝ }
+{
+    if address.len() != 20 {
+        return NOT_ASKED;
+    }
+    let mut octets = [0u8; 20];
+    copy(address, 0, 20, &mut octets, 0);
+    if is_dvb(octets) {
+        return 1;
+    }
+    0
+}
+
+// ---- the name with lengths of one octet
+
+// The views of a name in an array of four numbers.
+fn put_views(name: NameComponent, out: &mut [u32])
+    requires { ⌜ length (now out) ≡ 4 ⌝ }
+    ensures { λ r. ⌜ now (out .exit) ≡ nameNumbers name ⌝ }
+{
+    out[0] = name.id.at;
+    out[1] = name.id.len;
+    out[2] = name.kind.at;
+    out[3] = name.kind.len;
+}
+
+// The name that such numbers tell.
+fn views_of(name: &[u32]) -> NameComponent
+    requires { ⌜ length (now name) ≡ 4 ⌝ }
+    ensures { λ r. ⌜ r ≡ nameFrom (now (name .entry)) ⌝ }
+{
+    NameComponent {
+        id: View {
+            at: name[0],
+            len: name[1],
+        },
+        kind: View {
+            at: name[2],
+            len: name[3],
+        },
+    }
+}
+
+// Reads a name at the start of s: its views in four numbers (id at, id length, kind at, kind length) and the octets consumed; or the
+// refusal, which leaves zeros.
+#[no_mangle]
+pub extern "C" fn ior_name_read(s: &[u8], name: &mut [u32], answer: &mut [u64]) -> u32
+    ensures { λ r. ⌜ Gives (sized 4 (length (now (name .entry))) (length (now (answer .entry)))) (nameSaid (seen shortAt (readShortName (now (s .entry))))) (nameLeft (seen shortAt (readShortName (now (s .entry))))) (now (answer .entry)) (now (name .entry)) r (now (answer .exit)) (now (name .exit)) ⌝ }
+{
+    if !is_sized(NAME, name.len(), answer.len()) {
+        return NOT_ASKED;
+    }
+    match read_short_name(s) {
+        ShortNameRead::Got { name: found, next } => {
+            put_views(found, name);
+            put_answer(Answer::Count(next), answer)
+        }
+        ShortNameRead::Not { why } => {
+            let empty = View { at: 0, len: 0 };
+            put_views(
+                NameComponent {
+                    id: empty,
+                    kind: empty,
+                },
+                name,
+            );
+            put_answer(Answer::Refused(why), answer)
+        }
+    }
+}
+
+// Writes the name of these views over the source s at the start of `out`: its length, or the refusal, which leaves `out` as it is.
+#[no_mangle]
+pub extern "C" fn ior_name_write(name: &[u32], s: &[u8], out: &mut [u8], answer: &mut [u64]) -> u32
+    ensures { λ r. ⌜ Gives (sized 4 (length (now (name .entry))) (length (now (answer .entry)))) (shortWritten (nameFrom (now (name .entry))) (now (s .entry)) (now (out .entry))) (shortLeaves (nameFrom (now (name .entry))) (now (s .entry)) (now (out .entry))) (now (answer .entry)) (now (out .entry)) r (now (answer .exit)) (now (out .exit)) ⌝ }
+{
+    if !is_sized(NAME, name.len(), answer.len()) {
+        return NOT_ASKED;
+    }
+    put_answer(write_short_name(views_of(name), s, out), answer)
+}
