@@ -1,0 +1,283 @@
+//! Object references (IOP::IOR) of DSM-CC carousels: read, measured and written by a library whose every function is proved.
+//!
+//! A [`Reference`] borrows the octets it was read from and holds a table of numbers beside them; what it hands out are slices of those octets. Nothing
+//! is allocated, and no safe call can panic.
+//!
+//! ```
+//! use ior::{ObjectKind, Reference, TaggedProfile};
+//!
+//! let octets = [
+//!     0, 0, 0, 4, b's', b'r', b'g', 0, 0, 0, 0, 1, 0x49, 0x53, 0x4F, 0x06, 0, 0, 0, 22, 0, 2, 0x49, 0x53, 0x4F, 0x50, 9, 0, 0, 0, 1, 0, 2, 1, 0,
+//!     0, 0x49, 0x53, 0x4F, 0x40, 1, 0,
+//! ];
+//! let (reference, consumed) = Reference::read(&octets).unwrap();
+//! assert_eq!(consumed, 42);
+//! assert_eq!(reference.object_kind(), ObjectKind::ServiceGateway);
+//! for profile in reference.profiles() {
+//!     if let TaggedProfile::Biop(body) = profile {
+//!         assert_eq!(body.object_location().module_id, 2);
+//!         assert_eq!(body.taps().count(), 0);
+//!     }
+//! }
+//! let mut anew = [0; 42];
+//! assert_eq!(reference.write(&mut anew), Ok(42));
+//! assert_eq!(anew, octets);
+//! ```
+
+#![no_std]
+#![deny(missing_docs)]
+
+mod calls;
+mod profiles;
+mod refusal;
+
+pub use profiles::{BiopProfile, Extras, LiteOptionsProfile, Names, Profiles, TaggedProfile, Taps};
+pub use refusal::Refusal;
+
+use calls::{Answer, Table, ANSWER, TABLE};
+
+/// What an object is, by its type id.
+#[derive(Clone, Copy, Debug, PartialEq, Eq)]
+pub enum ObjectKind {
+    /// `dir`
+    Directory,
+    /// `fil`
+    File,
+    /// `str`
+    Stream,
+    /// `srg`
+    ServiceGateway,
+    /// `ste`
+    StreamEvent,
+    /// Another type id of four octets; zeros for one of another length.
+    Unknown([u8; 4]),
+}
+
+/// The kind that a type id's octets name.
+///
+/// ```
+/// assert_eq!(ior::object_kind(b"fil\0"), ior::ObjectKind::File);
+/// assert_eq!(ior::object_kind(b"file"), ior::ObjectKind::Unknown(*b"file"));
+/// ```
+pub fn object_kind(type_id: &[u8]) -> ObjectKind {
+    let (number, octets) = calls::kind(type_id);
+    match number {
+        0 => ObjectKind::Directory,
+        1 => ObjectKind::File,
+        2 => ObjectKind::Stream,
+        3 => ObjectKind::ServiceGateway,
+        4 => ObjectKind::StreamEvent,
+        _ => ObjectKind::Unknown(octets.to_be_bytes()),
+    }
+}
+
+/// Whether twenty octets bear the constants of a DVB address.
+///
+/// ```
+/// let mut address = [0; 20];
+/// assert!(!ior::is_dvb_address(&address));
+/// address[6] = 1;
+/// address[16..].fill(0xFF);
+/// assert!(ior::is_dvb_address(&address));
+/// ```
+pub fn is_dvb_address(address: &[u8; 20]) -> bool {
+    calls::dvb_address(address)
+}
+
+/// A tap of a ConnBinder.
+#[derive(Clone, Copy, Debug, PartialEq, Eq)]
+pub struct Tap<'a> {
+    /// The tap's id.
+    pub id: u16,
+    /// Its use.
+    pub use_: u16,
+    /// Its association tag.
+    pub association_tag: u16,
+    /// Its selector's octets.
+    pub selector: &'a [u8],
+}
+
+impl Tap<'_> {
+    /// The transaction id and the timeout, which a tap has together or not at all.
+    ///
+    /// ```
+    /// let tap = ior::Tap { id: 0, use_: 0x16, association_tag: 0, selector: &[0, 1, 0x80, 0, 0, 2, 0xFF, 0xFF, 0xFF, 0xFF] };
+    /// assert_eq!(tap.numbers(), Some((0x8000_0002, 0xFFFF_FFFF)));
+    /// ```
+    pub fn numbers(&self) -> Option<(u32, u32)> {
+        calls::tap(self.use_, self.selector)
+    }
+
+    /// The transaction id alone.
+    pub fn transaction_id(&self) -> Option<u32> {
+        self.numbers().map(|(transaction, _)| transaction)
+    }
+
+    /// The timeout alone.
+    pub fn timeout(&self) -> Option<u32> {
+        self.numbers().map(|(_, timeout)| timeout)
+    }
+}
+
+/// Where an object stands in a carousel.
+#[derive(Clone, Copy, Debug, PartialEq, Eq)]
+pub struct ObjectLocation<'a> {
+    /// The carousel.
+    pub carousel_id: u32,
+    /// The module.
+    pub module_id: u16,
+    /// The version's first part.
+    pub version_major: u8,
+    /// The version's second part.
+    pub version_minor: u8,
+    /// The object's key.
+    pub object_key: &'a [u8],
+}
+
+/// The address of a service; its constants are not kept.
+#[derive(Clone, Copy, Debug, PartialEq, Eq)]
+pub struct NsapAddress {
+    /// The carousel.
+    pub carousel_id: u32,
+    /// The specifier's data.
+    pub specifier_data: [u8; 3],
+    /// The transport stream.
+    pub transport_stream_id: u16,
+    /// The original network.
+    pub original_network_id: u16,
+    /// The service.
+    pub service_id: u16,
+}
+
+/// A name's id and kind.
+#[derive(Clone, Copy, Debug, PartialEq, Eq)]
+pub struct NameComponent<'a> {
+    /// The id.
+    pub id: &'a [u8],
+    /// The kind.
+    pub kind: &'a [u8],
+}
+
+/// A component beyond those that each profile has.
+#[derive(Clone, Copy, Debug, PartialEq, Eq)]
+pub struct LiteComponent<'a> {
+    /// Its tag.
+    pub tag: u32,
+    /// Its octets.
+    pub data: &'a [u8],
+}
+
+/// The octets under a view; a view that lies outside, which no accepted reading gives, shows none.
+fn shown<'a>(source: &'a [u8], view: &[u32]) -> &'a [u8] {
+    let at = view[0] as usize;
+    source.get(at..at.saturating_add(view[1] as usize)).unwrap_or(&[])
+}
+
+/// A reference that was read: the source's octets, and a table of what stands where.
+#[derive(Clone, Debug, PartialEq, Eq)]
+pub struct Reference<'a> {
+    source: &'a [u8],
+    table: Table,
+}
+
+impl<'a> Reference<'a> {
+    /// The reference at the start of `source`, and how many octets it has.
+    pub fn read(source: &'a [u8]) -> Result<(Self, usize), Refusal> {
+        let mut reference = Reference { source, table: [0; TABLE] };
+        let mut answer: Answer = [0; ANSWER];
+        let result = calls::read(source, &mut reference.table, &mut answer);
+        Refusal::checked(result, &answer).map(|consumed| (reference, consumed))
+    }
+
+    /// The reference that `source` is from its start to its end.
+    ///
+    /// ```
+    /// let why = ior::Reference::read_whole(&[0; 9]).unwrap_err();
+    /// assert_eq!(why.to_string(), "octets left over: 1 behind the reference's end (refusal 1)");
+    /// ```
+    pub fn read_whole(source: &'a [u8]) -> Result<Self, Refusal> {
+        let mut reference = Reference { source, table: [0; TABLE] };
+        let mut answer: Answer = [0; ANSWER];
+        let result = calls::read_whole(source, &mut reference.table, &mut answer);
+        Refusal::checked(result, &answer).map(|_| reference)
+    }
+
+    /// The octets of the type id.
+    pub fn type_id(&self) -> &'a [u8] {
+        shown(self.source, &self.table[..2])
+    }
+
+    /// What the object is.
+    pub fn object_kind(&self) -> ObjectKind {
+        object_kind(self.type_id())
+    }
+
+    /// The profiles, in their order.
+    pub fn profiles(&self) -> Profiles<'_, 'a> {
+        Profiles::new(self)
+    }
+
+    /// The first BIOP profile.
+    pub fn biop_profile(&self) -> Option<BiopProfile<'_, 'a>> {
+        let mut answer: Answer = [0; ANSWER];
+        let index = Refusal::checked(calls::first_biop(&self.table, &mut answer), &answer).ok()?;
+        match self.profiles().nth(index)? {
+            TaggedProfile::Biop(body) => Some(body),
+            _ => None,
+        }
+    }
+
+    /// How many octets [`Reference::write`] writes.
+    pub fn length(&self) -> Result<usize, Refusal> {
+        let mut answer: Answer = [0; ANSWER];
+        let result = calls::length(&self.table, self.source, &mut answer);
+        Refusal::checked(result, &answer)
+    }
+
+    /// Writes the reference at the start of `out`, and says how many octets that are. Where it is refused, no octet is changed.
+    ///
+    /// ```
+    /// let (reference, _) = ior::Reference::read(&[0; 8]).unwrap();
+    /// let why = reference.write(&mut [0; 7]).unwrap_err();
+    /// assert_eq!(why.to_string(), "no room: 8 octets needed, 7 in the output (refusal 5)");
+    /// ```
+    pub fn write(&self, out: &mut [u8]) -> Result<usize, Refusal> {
+        let mut answer: Answer = [0; ANSWER];
+        let result = calls::write(&self.table, self.source, out, &mut answer);
+        Refusal::checked(result, &answer)
+    }
+}
+
+/// A name component with lengths of one octet, as BIOP messages have it.
+#[derive(Clone, Copy, Debug, PartialEq, Eq)]
+pub struct ShortName<'a> {
+    source: &'a [u8],
+    views: [u32; 4],
+}
+
+impl<'a> ShortName<'a> {
+    /// The name at the start of `source`, and how many octets it has.
+    ///
+    /// ```
+    /// let (name, consumed) = ior::ShortName::read(&[2, b'i', b'd', 1, b'k', 7]).unwrap();
+    /// assert_eq!((name.parts().id, name.parts().kind, consumed), (&b"id"[..], &b"k"[..], 5));
+    /// ```
+    pub fn read(source: &'a [u8]) -> Result<(Self, usize), Refusal> {
+        let mut views = [0; 4];
+        let mut answer: Answer = [0; ANSWER];
+        let result = calls::name_read(source, &mut views, &mut answer);
+        Refusal::checked(result, &answer).map(|consumed| (ShortName { source, views }, consumed))
+    }
+
+    /// Its id and its kind.
+    pub fn parts(&self) -> NameComponent<'a> {
+        NameComponent { id: shown(self.source, &self.views[..2]), kind: shown(self.source, &self.views[2..]) }
+    }
+
+    /// Writes the name at the start of `out`, and says how many octets that are. Where it is refused, no octet is changed.
+    pub fn write(&self, out: &mut [u8]) -> Result<usize, Refusal> {
+        let mut answer: Answer = [0; ANSWER];
+        let result = calls::name_write(&self.views, self.source, out, &mut answer);
+        Refusal::checked(result, &answer)
+    }
+}

@@ -1,0 +1,207 @@
+//! References on both sides of a line, entries as slices of the caller's octets, and damaged and random octets.
+
+use ior::{is_dvb_address, object_kind, ObjectKind, Reference, Refusal, ShortName, TaggedProfile};
+
+const J: [u8; 42] = [
+    0, 0, 0, 4, 0x73, 0x72, 0x67, 0, 0, 0, 0, 1, 0x49, 0x53, 0x4F, 0x06, 0, 0, 0, 0x16, 0, 2, 0x49, 0x53, 0x4F, 0x50, 9, 0, 0,
+    0, 1, 0, 2, 1, 0, 0, 0x49, 0x53, 0x4F, 0x40, 1, 0,
+];
+
+fn refused(octets: &[u8]) -> (u8, u8, u64, u64) {
+    let why = Reference::read(octets).expect_err("refused");
+    (why.number, why.place, why.first, why.second)
+}
+
+fn number(octets: &mut Vec<u8>, n: usize) {
+    octets.extend((n as u32).to_be_bytes());
+}
+
+/// A BIOP profile with two taps and an extra, a LiteOptions profile with two names and an extra, and an opaque one.
+fn rich() -> Vec<u8> {
+    let mut biop = vec![0, 3, 0x49, 0x53, 0x4F, 0x50, 11, 0, 0, 0, 7, 0, 9, 1, 0, 2, 0xAA, 0xBB];
+    let taps =
+        [&[0, 1, 0, 0x16, 0, 5, 10, 0, 1, 0x80, 0, 0, 2, 0xFF, 0xFF, 0xFF, 0xFF][..], &[0, 2, 0, 0x17, 0, 6, 0]].concat();
+    biop.extend([0x49, 0x53, 0x4F, 0x40, 1 + taps.len() as u8, 2]);
+    biop.extend(taps);
+    biop.extend([1, 2, 3, 4, 3, 9, 8, 7]);
+
+    let mut service = vec![20, 0, 0, 0, 0, 0, 8, 1, 1, 2, 3, 0, 4, 0, 5, 0, 6, 0xFF, 0xFF, 0xFF, 0xFF];
+    number(&mut service, 2);
+    for (id, kind) in [("one", "fil"), ("", "dir")] {
+        number(&mut service, id.len());
+        service.extend(id.bytes());
+        number(&mut service, kind.len());
+        service.extend(kind.bytes());
+    }
+    number(&mut service, 5);
+    service.extend(b"there");
+    let mut lite = vec![0, 2, 0x49, 0x53, 0x4F, 0x46];
+    number(&mut lite, service.len());
+    lite.extend(service);
+    lite.extend([5, 6, 7, 8, 0]);
+
+    let mut all = b"\0\0\0\x04fil\0".to_vec();
+    number(&mut all, 3);
+    for (tag, data) in [(0x49534F06, &biop[..]), (0x49534F05, &lite), (0xDEADBEEF, b"any")] {
+        number(&mut all, tag);
+        number(&mut all, data.len());
+        all.extend(data);
+    }
+    all
+}
+
+#[test]
+fn worked_references() {
+    assert_eq!(refused(&[]), (1, 1, 8, 0));
+    assert_eq!(Reference::read(&[0; 8]).unwrap().1, 8);
+    assert_eq!(refused(&[0, 0, 0, 3, 0, 0, 0, 0]), (4, 33, 0, 0));
+    assert_eq!(refused(&[0, 0, 0, 4, 0x73, 0x72, 0x67, 0]), (1, 2, 12, 8));
+    assert_eq!(refused(&[0, 0, 0, 8, 0, 0, 0, 0]), (2, 0, 8, 4));
+    assert_eq!(refused(&[0, 0, 0, 0, 0, 0, 0, 1]), (1, 3, 16, 8));
+    let (reference, consumed) = Reference::read(&J).unwrap();
+    assert_eq!((consumed, reference.object_kind()), (42, ObjectKind::ServiceGateway));
+    let mut count = J;
+    count[21] = 1;
+    assert_eq!(refused(&count), (4, 34, 0, 0));
+    count[20] = 1;
+    assert_eq!(refused(&count), (3, 28, 0, 0));
+    let mut short = J;
+    short[26] = 8;
+    assert_eq!(refused(&short), (1, 7, 16, 15));
+}
+
+#[test]
+fn entries_are_slices_of_the_source() {
+    let octets = rich();
+    let reference = Reference::read_whole(&octets).unwrap();
+    assert_eq!(reference.type_id(), b"fil\0");
+    assert_eq!(reference.profiles().len(), 3);
+    let body = reference.biop_profile().unwrap();
+    let location = body.object_location();
+    assert_eq!((location.carousel_id, location.module_id, location.version_major, location.version_minor), (7, 9, 1, 0));
+    assert_eq!(location.object_key, [0xAA, 0xBB]);
+    let taps: Vec<_> = body.taps().collect();
+    assert_eq!((taps[0].id, taps[0].use_, taps[0].association_tag), (1, 0x16, 5));
+    assert_eq!((taps[0].transaction_id(), taps[0].timeout()), (Some(0x8000_0002), Some(0xFFFF_FFFF)));
+    assert_eq!((taps[1].numbers(), taps[1].selector), (None, &[][..]));
+    let within = octets.as_ptr_range();
+    assert!(within.contains(&taps[0].selector.as_ptr()));
+    assert_eq!(body.extras().map(|e| (e.tag, e.data.to_vec())).collect::<Vec<_>>(), [(0x01020304, vec![9, 8, 7])]);
+
+    let mut profiles = reference.profiles().skip(1);
+    let Some(TaggedProfile::LiteOptions(lite)) = profiles.next() else { panic!("LiteOptions") };
+    let address = lite.service_domain();
+    assert_eq!((address.carousel_id, address.specifier_data), (8, [1, 2, 3]));
+    assert_eq!((address.transport_stream_id, address.original_network_id, address.service_id), (4, 5, 6));
+    let names: Vec<_> = lite.path().map(|n| (n.id, n.kind)).collect();
+    assert_eq!(names, [(&b"one"[..], &b"fil"[..]), (b"", b"dir")]);
+    assert_eq!(lite.initial_context(), b"there");
+    assert_eq!(lite.extras().map(|e| (e.tag, e.data)).collect::<Vec<_>>(), [(0x05060708, &[][..])]);
+    assert!(matches!(profiles.next(), Some(TaggedProfile::Opaque { tag: 0xDEADBEEF, data: b"any" })));
+    assert!(profiles.next().is_none());
+}
+
+#[test]
+fn what_is_written_is_what_was_read() {
+    for octets in [rich(), J.to_vec(), vec![0; 8]] {
+        let reference = Reference::read_whole(&octets).unwrap();
+        assert_eq!(reference.length(), Ok(octets.len()));
+        let mut out = vec![0xA5; octets.len() + 3];
+        assert_eq!(reference.write(&mut out), Ok(octets.len()));
+        assert_eq!(out[..octets.len()], octets);
+        assert_eq!(out[octets.len()..], [0xA5; 3]);
+        let mut little = vec![0xA5; octets.len() - 1];
+        let why = reference.write(&mut little).unwrap_err();
+        assert_eq!(why, Refusal { number: 5, place: 0, first: octets.len() as u64, second: octets.len() as u64 - 1 });
+        assert!(little.iter().all(|octet| *octet == 0xA5));
+    }
+}
+
+#[test]
+fn large_sources() {
+    assert_eq!(refused(&vec![0; 65_536]), (6, 0, 65_536, 65_535));
+    let mut nine = vec![0; 80];
+    nine[7] = 9;
+    assert_eq!(refused(&nine), (7, 40, 9, 8));
+}
+
+#[test]
+fn short_names() {
+    let octets = [3, b'a', b'b', b'c', 0];
+    let (name, consumed) = ShortName::read(&octets).unwrap();
+    assert_eq!((consumed, name.parts().id, name.parts().kind), (5, &b"abc"[..], &b""[..]));
+    let mut out = [0; 6];
+    assert_eq!(name.write(&mut out), Ok(5));
+    assert_eq!(out, [3, b'a', b'b', b'c', 0, 0]);
+    assert_eq!(ShortName::read(&[2, 1]).unwrap_err().to_string(), "too long: 2 octets declared, 1 available (refusal 2)");
+    assert_eq!(
+        ShortName::read(&[]).unwrap_err().to_string(),
+        "cut off: a short name's id length, 1 octets needed, 0 there (refusal 1)"
+    );
+}
+
+#[test]
+fn questions() {
+    assert_eq!(object_kind(b"dir\0"), ObjectKind::Directory);
+    assert_eq!(object_kind(b"str\0"), ObjectKind::Stream);
+    assert_eq!(object_kind(b"ste\0"), ObjectKind::StreamEvent);
+    assert_eq!(object_kind(b"none"), ObjectKind::Unknown(*b"none"));
+    assert_eq!(object_kind(b"dir"), ObjectKind::Unknown([0; 4]));
+    let mut address = [0u8; 20];
+    address[6] = 1;
+    address[16..].fill(0xFF);
+    for at in [0, 1, 6, 16, 19] {
+        assert!(is_dvb_address(&address));
+        address[at] ^= 4;
+        assert!(!is_dvb_address(&address));
+        address[at] ^= 4;
+    }
+}
+
+/// Everything that can be asked of a reference, so that no octets make a safe call panic or read outside.
+fn ask_all(octets: &[u8]) {
+    let Ok((reference, consumed)) = Reference::read(octets) else { return };
+    let mut sum = reference.type_id().iter().map(|o| *o as usize).sum::<usize>();
+    for profile in reference.profiles() {
+        match profile {
+            TaggedProfile::Biop(body) => {
+                sum += body.object_location().object_key.len();
+                sum += body.taps().map(|t| t.selector.len() + t.numbers().is_some() as usize).sum::<usize>();
+                sum += body.extras().map(|e| e.data.len()).sum::<usize>();
+            }
+            TaggedProfile::LiteOptions(body) => {
+                sum += body.path().map(|n| n.id.len() + n.kind.len()).sum::<usize>();
+                sum += body.initial_context().len() + body.extras().map(|e| e.data.len()).sum::<usize>();
+            }
+            TaggedProfile::Opaque { data, .. } => sum += data.len(),
+        }
+    }
+    assert!(sum <= 255 * (octets.len() + 36));
+    assert_eq!(reference.length(), Ok(consumed));
+    let mut out = vec![0; consumed];
+    assert_eq!(reference.write(&mut out), Ok(consumed));
+    assert_eq!(Reference::read_whole(&out).map(|again| again.type_id().to_vec()), Ok(reference.type_id().to_vec()));
+}
+
+#[test]
+fn damaged_and_random_octets() {
+    let mut state = 1u64;
+    let mut octet = move || {
+        state = state.wrapping_mul(6364136223846793005).wrapping_add(1442695040888963407);
+        (state >> 56) as u8
+    };
+    let whole = rich();
+    for end in 0..whole.len() {
+        ask_all(&whole[..end]);
+        for value in [0, 1, 2, 0x14, 0x7F, 0x80, 0xFF, octet()] {
+            let mut damaged = whole.clone();
+            damaged[end] = value;
+            ask_all(&damaged);
+        }
+    }
+    for _ in 0..20_000 {
+        let mut octets: Vec<u8> = (0..octet()).map(|_| octet() & octet()).collect();
+        octets.splice(0..octets.len().min(4), [0, 0, 0, octet() & 4]);
+        ask_all(&octets);
+    }
+}

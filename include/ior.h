@@ -1,0 +1,166 @@
+/* Object references (IOP::IOR) of DSM-CC carousels: read, measure, write and ask.
+ *
+ * Link with libior_c.a. No function allocates, keeps a pointer, prints, or changes anything but the arrays that it is lent for that. Each array
+ * is a pointer and a length in elements; an empty one may have any pointer that is not null. Arrays of one call must not overlap.
+ *
+ * A reference's contents are told in a table of 490 numbers (struct ior_table). Octets stay where they are: a view is an offset and a length in
+ * the source. An answer is five numbers (struct ior_answer). The result of each function is the refusal's number, 0 for accepted;
+ * IOR_NOT_ASKED says that an array has not the length it must have, or that a table that was handed in holds a number wider than its field or an unknown
+ * sort in a used entry, and then nothing is changed.
+ */
+#ifndef IOR_H
+#define IOR_H
+
+#include <stddef.h>
+#include <stdint.h>
+
+#ifdef __cplusplus
+extern "C" {
+#endif
+
+/* ---- sizes */
+
+enum {
+    IOR_TABLE = 490,       /* numbers of a table */
+    IOR_ANSWER = 5,        /* numbers of an answer */
+    IOR_PROFILES = 8,      /* the most profiles, taps, names and extras of one reference */
+    IOR_TAPS = 36,
+    IOR_NAMES = 32,
+    IOR_EXTRAS = 32,
+    IOR_MOST = 65535       /* the most octets of a source and of an image */
+};
+
+/* ---- results and refusals; places and figures are listed in docs/FIRMWARE.md */
+
+enum {
+    IOR_ACCEPTED = 0,
+    IOR_CUT = 1,           /* a field or its data is cut off (figures: need, have), or octets are left over (count, 0) */
+    IOR_TOO_LONG = 2,      /* a length passes the end, or a written component passes 255 (declared, available) */
+    IOR_WRONG = 3,         /* an order octet or a required tag is wrong */
+    IOR_OUT_OF_RANGE = 4,  /* a type id's length, a component count or an address length is out of range */
+    IOR_NO_ROOM = 5,       /* the output is too small (need, have) */
+    IOR_SOURCE_LARGE = 6,  /* the source has over 65,535 octets (length, 65535) */
+    IOR_TABLE_SMALL = 7,   /* a table is too small (total needed, size) */
+    IOR_COUNTS = 8,        /* a used count is above the table's size, or sums disagree */
+    IOR_OUTSIDE = 9,       /* a view passes the source's end (offset, length) */
+    IOR_IMAGE_LARGE = 10,  /* the image has over 65,535 octets (image, 65535) */
+    IOR_NOT_ASKED = 255    /* an array has another length than it must have, or a table is not exact */
+};
+
+/* ---- where an answer's numbers stand */
+
+enum { IOR_ANSWER_NUMBER = 0, IOR_ANSWER_PLACE = 1, IOR_ANSWER_FIRST = 2, IOR_ANSWER_SECOND = 3, IOR_ANSWER_COUNT = 4 };
+
+/* ---- where a table's numbers stand */
+
+enum {
+    IOR_TYPE_ID_AT = 0, IOR_TYPE_ID_LEN = 1,
+    IOR_PROFILES_USED = 2, IOR_TAPS_USED = 3, IOR_NAMES_USED = 4, IOR_EXTRAS_USED = 5,
+    IOR_PROFILE_START = 6, IOR_PROFILE_WIDTH = 10,
+    IOR_TAP_START = 86, IOR_TAP_WIDTH = 5,
+    IOR_NAME_START = 266, IOR_NAME_WIDTH = 4,
+    IOR_EXTRA_START = 394, IOR_EXTRA_WIDTH = 3
+};
+
+/* the first number of a profile */
+enum { IOR_OPAQUE = 0, IOR_BIOP = 1, IOR_LITE_OPTIONS = 2 };
+
+/* the others, by its sort; what is not named is 0 */
+enum { IOR_OPAQUE_TAG = 1, IOR_OPAQUE_AT = 2, IOR_OPAQUE_LEN = 3 };
+enum {
+    IOR_BIOP_CAROUSEL = 1, IOR_BIOP_MODULE = 2, IOR_BIOP_MAJOR = 3, IOR_BIOP_MINOR = 4,
+    IOR_BIOP_KEY_AT = 5, IOR_BIOP_KEY_LEN = 6, IOR_BIOP_TAPS = 7, IOR_BIOP_EXTRAS = 8
+};
+enum {
+    IOR_LITE_CAROUSEL = 1, IOR_LITE_SPECIFIER = 2, IOR_LITE_TRANSPORT_STREAM = 3, IOR_LITE_NETWORK = 4, IOR_LITE_SERVICE = 5,
+    IOR_LITE_NAMES = 6, IOR_LITE_CONTEXT_AT = 7, IOR_LITE_CONTEXT_LEN = 8, IOR_LITE_EXTRAS = 9
+};
+
+enum { IOR_TAP_ID = 0, IOR_TAP_USE = 1, IOR_TAP_ASSOCIATION = 2, IOR_TAP_SELECTOR_AT = 3, IOR_TAP_SELECTOR_LEN = 4 };
+enum { IOR_NAME_ID_AT = 0, IOR_NAME_ID_LEN = 1, IOR_NAME_KIND_AT = 2, IOR_NAME_KIND_LEN = 3 };
+enum { IOR_EXTRA_TAG = 0, IOR_EXTRA_AT = 1, IOR_EXTRA_LEN = 2 };
+
+/* ---- references */
+
+/* Reads the reference at the start of s. Accepted: answer[4] octets were consumed, the table's six front numbers and its used entries are
+ * stored, and what stands behind the used entries is kept. Refused (1 to 4, 6, 7): answer[4] is 0 and the table is zero throughout. */
+uint32_t ior_read(const uint8_t *s, size_t n, uint32_t *table, size_t table_len, uint64_t *answer, size_t answer_len);
+
+/* The same, and s must end with the reference: octets left over are refused with 1, place 4. */
+uint32_t ior_read_whole(const uint8_t *s, size_t n, uint32_t *table, size_t table_len, uint64_t *answer, size_t answer_len);
+
+/* The length of the image that ior_write writes of the table over the source s, in answer[4]; or 6, 8, 9 or 10, and 0 there. */
+uint32_t ior_length(const uint32_t *table, size_t table_len, const uint8_t *s, size_t n, uint64_t *answer, size_t answer_len);
+
+/* Writes the table over the source s at the start of out. Accepted: answer[4] octets were written, and those behind are as they were.
+ * Refused (2, 4, 5, 6, 8, 9, 10): answer[4] is 0 and no octet of out is changed. */
+uint32_t ior_write(const uint32_t *table, size_t table_len, const uint8_t *s, size_t n, uint8_t *out, size_t out_len, uint64_t *answer,
+                   size_t answer_len);
+
+/* ---- questions */
+
+enum { IOR_KIND_DIRECTORY = 0, IOR_KIND_FILE = 1, IOR_KIND_STREAM = 2, IOR_KIND_SERVICE_GATEWAY = 3, IOR_KIND_STREAM_EVENT = 4, IOR_KIND_UNKNOWN = 5 };
+
+/* The kind that the octets of a type id name, one of the six above; kind[0] is its four octets as a number, 0 if it has not four octets. kind has one
+ * number; of another length: IOR_NOT_ASKED. Never refused otherwise. */
+uint32_t ior_kind(const uint8_t *type_id, size_t n, uint32_t *kind, size_t kind_len);
+
+/* Whether a tap of this use and selector has a transaction id and a timeout: 1, and pair[0] and pair[1] are the two; or 0, and both are 0. pair has
+ * two numbers and use has 16 bits; else IOR_NOT_ASKED. */
+uint32_t ior_tap(uint32_t use, const uint8_t *selector, size_t n, uint32_t *pair, size_t pair_len);
+
+/* The index of the first BIOP profile, in answer[4]; IOR_PROFILES (8) if there is none. Refused with 8, place 40, if more than 8 are used. */
+uint32_t ior_first_biop(const uint32_t *table, size_t table_len, uint64_t *answer, size_t answer_len);
+
+/* Whether an address of twenty octets bears the constants of a DVB address: 1 or 0. IOR_NOT_ASKED if it has another length. */
+uint32_t ior_dvb_address(const uint8_t *address, size_t n);
+
+/* ---- the name component with lengths of one octet */
+
+/* Reads a name at the start of s: answer[4] octets were consumed, and name has four numbers: where the id stands and its length, where the kind stands
+ * and its length. Refused (1, 2, 6): both are zero throughout. */
+uint32_t ior_name_read(const uint8_t *s, size_t n, uint32_t *name, size_t name_len, uint64_t *answer, size_t answer_len);
+
+/* Writes the name of these views over the source s at the start of out. Refused (2, 5, 6, 9): no octet of out is changed. */
+uint32_t ior_name_write(const uint32_t *name, size_t name_len, const uint8_t *s, size_t n, uint8_t *out, size_t out_len, uint64_t *answer,
+                        size_t answer_len);
+
+#ifdef __cplusplus
+}
+#endif
+
+/* ---- the same with typed arrays, and entries by their index */
+
+struct ior_table { uint32_t number[IOR_TABLE]; };
+struct ior_answer { uint64_t number[IOR_ANSWER]; };
+struct ior_view { uint32_t at, len; };
+
+static inline uint32_t ior_read_into(const uint8_t *s, size_t n, struct ior_table *t, struct ior_answer *a) {
+    return ior_read(s, n, t->number, IOR_TABLE, a->number, IOR_ANSWER);
+}
+static inline uint32_t ior_read_whole_into(const uint8_t *s, size_t n, struct ior_table *t, struct ior_answer *a) {
+    return ior_read_whole(s, n, t->number, IOR_TABLE, a->number, IOR_ANSWER);
+}
+static inline uint32_t ior_length_of(const struct ior_table *t, const uint8_t *s, size_t n, struct ior_answer *a) {
+    return ior_length(t->number, IOR_TABLE, s, n, a->number, IOR_ANSWER);
+}
+static inline uint32_t ior_write_from(const struct ior_table *t, const uint8_t *s, size_t n, uint8_t *out, size_t room, struct ior_answer *a) {
+    return ior_write(t->number, IOR_TABLE, s, n, out, room, a->number, IOR_ANSWER);
+}
+
+/* The numbers of entry i; i is below the used count, which is at most the table's size after an accepted reading. */
+static inline const uint32_t *ior_profile_at(const struct ior_table *t, size_t i) { return t->number + IOR_PROFILE_START + IOR_PROFILE_WIDTH * i; }
+static inline const uint32_t *ior_tap_at(const struct ior_table *t, size_t i) { return t->number + IOR_TAP_START + IOR_TAP_WIDTH * i; }
+static inline const uint32_t *ior_name_at(const struct ior_table *t, size_t i) { return t->number + IOR_NAME_START + IOR_NAME_WIDTH * i; }
+static inline const uint32_t *ior_extra_at(const struct ior_table *t, size_t i) { return t->number + IOR_EXTRA_START + IOR_EXTRA_WIDTH * i; }
+
+/* A view: offset and length stand one after the other. */
+static inline struct ior_view ior_view_of(const uint32_t *numbers, size_t at) {
+    struct ior_view v;
+    v.at = numbers[at];
+    v.len = numbers[at + 1];
+    return v;
+}
+static inline struct ior_view ior_type_id(const struct ior_table *t) { return ior_view_of(t->number, IOR_TYPE_ID_AT); }
+
+#endif
