@@ -8,54 +8,6 @@ use reference::Tables;
 use reference::TaggedProfile;
 use reference::View;
 
-// A service gateway's reference: one BIOP profile with a key of two octets.
-const REFERENCE: [u8; 44] = [
-    0x00,
-    0x00,
-    0x00,
-    0x04,
-    0x73,
-    0x72,
-    0x67,
-    0x00,
-    0x00,
-    0x00,
-    0x00,
-    0x01,
-    0x49,
-    0x53,
-    0x4F,
-    0x06,
-    0x00,
-    0x00,
-    0x00,
-    0x18,
-    0x00,
-    0x02,
-    0x49,
-    0x53,
-    0x4F,
-    0x50,
-    0x0B,
-    0x00,
-    0x00,
-    0x00,
-    0x07,
-    0x00,
-    0x2A,
-    0x01,
-    0x00,
-    0x02,
-    0xC0,
-    0xDE,
-    0x49,
-    0x53,
-    0x4F,
-    0x40,
-    0x01,
-    0x00,
-];
-
 fn say(text: &[u8]) {
     io::write_all(STDOUT_FILENO, text);
 }
@@ -152,9 +104,14 @@ fn read_and_say(s: &[u8]) {
     }
 }
 
+// A service gateway's reference with one BIOP profile, whose key has two octets.
 fn main() {
-    read_and_say(&REFERENCE);
-    say_kind(&REFERENCE[4..8]);
+    read_and_say(
+        b"\x00\x00\x00\x04\x73\x72\x67\x00\x00\x00\x00\x01\x49\x53\x4F\x06\x00\x00\x00\x18\x00\x02\x49\x53\x4F\x50\x0B\x00\x00\x00\x07\x00\x2A\x01\x00\x02\xC0\xDE\x49\x53\x4F\x40\x01\x00",
+    );
+    say_kind(b"srg\x00");
     // The same, cut in the middle of its profile: a header that lies is refused, with the place and the figures.
-    read_and_say(&REFERENCE[..30]);
+    read_and_say(
+        b"\x00\x00\x00\x04\x73\x72\x67\x00\x00\x00\x00\x01\x49\x53\x4F\x06\x00\x00\x00\x18\x00\x02\x49\x53\x4F\x50\x0B\x00\x00\x00",
+    );
 }
