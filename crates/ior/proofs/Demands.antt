@@ -1,11 +1,12 @@
 -- The promises, over what the face's contracts say. `s` are the octets of the caller's slice, `t` the caller's tables, `d` the output before the call and
 -- `e` after it, `r` what the call answered: each theorem begins with the very clause of the call's contract. That a slice of u8 holds octets (`Octets`)
 -- and that tables keep to their types (`Typed`) is what the language gives a caller; nothing else is asked. Assumes nothing.
-use Prim.Native.Nat.{ℕ, _+_, _≤_}
+use Prim.Native.Nat.{ℕ, _≤_}
 use mathlib.Core.Path.{_≡_, sym, ap, _∙_, subst}
-use mathlib.Core.List.{List, _++_, map}
+use mathlib.Core.Bool.{Bool}
+use mathlib.Core.List.{List, map}
 use mathlib.Core.Logic.{_↔_}
-use lib.ListN.{length, take}
+use lib.ListN.{length}
 use Rattle.octets.specs.Octets.{Octets, Each}
 use Rattle.reference.specs.declared.Answer.{Answer as Told}
 use Rattle.reference.specs.declared.Answer.the-variants.{Count, Refused}
@@ -14,9 +15,8 @@ use Rattle.reference.specs.declared.Refusal.{Refusal}
 use Rattle.reference.specs.declared.Tables.{Tables}
 use Rattle.reference.specs.Meaning.{Reference}
 use Rattle.reference.specs.Layout.{Leads}
-use Rattle.reference.specs.Reader.{readLeading, readWhole}
+use Rattle.reference.specs.Reader.{readLeading, readWhole, seen}
 use Rattle.reference.specs.Tables.{tablesOf, tabled, noTables, usedOf, Typed, Unknown}
-use Rattle.reference.specs.Writer as Writer
 use Rattle.reference.specs.Writer.{answered, imageOf, measured}
 use Rattle.reference.specs.Promises.{ShowsFields, GivesBack, ReadsBack, PutInFront, LengthIsWritten, SameUsed}
 use Rattle.reference.specs.Worked as Table
@@ -25,6 +25,23 @@ use Rattle.reference.proofs.Written as written
 use Rattle.reference.proofs.Measured as measuredly
 use Rattle.reference.proofs.Worked as worked-out
 use Rattle.writing.specs.Writes.{Writes}
+use Rattle.reference.specs.declared.NameComponent.{NameComponent}
+use Rattle.reference.specs.Questions.{kindOf, tapNumbersOf, firstBiop, dvbAddress}
+use Rattle.reference.specs.Names.{readShortName, shortAt}
+use Rattle.reading.specs.Into.{ReadInto}
+use Rattle.reading.proofs.Determined as reading
+use Rattle.writing.proofs.Determined as writing
+use Rattle.questions.specs.declared.ObjectKind.{ObjectKind}
+use Rattle.questions.specs.declared.TapNumbers.{TapNumbers}
+use Rattle.questions.specs.declared.FirstBiop.{FirstBiop}
+use Rattle.questions.specs.Told.{kindTold, numbersTold, firstTold}
+use Rattle.questions.proofs.Promises as questions
+use Rattle.names.specs.declared.ShortNameRead.{ShortNameRead}
+use Rattle.names.specs.Told.{shortTold}
+use Rattle.names.specs.Writes as Short
+use Rattle.names.proofs.Promises as names
+
+-- and that tables keep to their types (`Typed`) is what the language gives a caller; nothing else is asked. Assumes nothing.
 
 -- the reading that accepts n octets with the tables t
 abbrev pub taking : ℕ → Tables → Reading
@@ -113,3 +130,44 @@ only-used-matter t t′ h s d r r′ e e′ w w′ =
 -- P1 to P11 of document 01: each question of the table is answered as 01 says.
 pub worked : map (λ q. Table.reply (q .0)) Table.cases ≡ map (λ q. q .1) Table.cases
 worked = worked-out.worked
+
+-- ---- `determined`: each public call's contract determines the answer, and the output or the table too. Any two that it allows are equal; where a lower
+-- crate has shown it, its theorem is cited.
+
+pub determined-read-leading : (s : List ℕ) (r r′ : Reading) → r ≡ answered (readLeading s) → r′ ≡ answered (readLeading s) → r ≡ r′
+determined-read-leading s r r′ p q = reading.leading-determined s p q
+
+pub determined-read-whole : (s : List ℕ) (r r′ : Reading) → r ≡ answered (readWhole s) → r′ ≡ answered (readWhole s) → r ≡ r′
+determined-read-whole s r r′ p q = reading.whole-determined s p q
+
+pub determined-read-leading-into : (s t e e′ : List ℕ) (r r′ : Told) → ReadInto (readLeading s) t e r → ReadInto (readLeading s) t e′ r′ → (r ≡ r′) × (e ≡ e′)
+determined-read-leading-into s t e e′ r r′ p q = reading.leading-into-determined s t p q
+
+pub determined-read-whole-into : (s t e e′ : List ℕ) (r r′ : Told) → ReadInto (readWhole s) t e r → ReadInto (readWhole s) t e′ r′ → (r ≡ r′) × (e ≡ e′)
+determined-read-whole-into s t e e′ r r′ p q = reading.whole-into-determined s t p q
+
+-- of both measurings
+pub determined-image-length : (t : Tables) (s : List ℕ) (r r′ : Told) → r ≡ measured t s → r′ ≡ measured t s → r ≡ r′
+determined-image-length t s r r′ p q = writing.length-determined t s p q
+
+-- of both writings
+pub determined-write : (t : Tables) (s d : List ℕ) (r r′ : Told) (e e′ : List ℕ) → Writes t s d r e → Writes t s d r′ e′ → (r ≡ r′) × (e ≡ e′)
+determined-write t s d r r′ e e′ p q = writing.write-determined p q
+
+pub determined-object-kind : (l : List ℕ) (r r′ : ObjectKind) → kindTold r ≡ kindOf l → kindTold r′ ≡ kindOf l → r ≡ r′
+determined-object-kind l r r′ p q = questions.kind-determined l r r′ p q
+
+pub determined-tap-numbers : (uses : ℕ) (l : List ℕ) (r r′ : TapNumbers) → numbersTold r ≡ tapNumbersOf uses l → numbersTold r′ ≡ tapNumbersOf uses l → r ≡ r′
+determined-tap-numbers uses l r r′ p q = questions.numbers-determined uses l r r′ p q
+
+pub determined-first-biop : (t : Tables) (r r′ : FirstBiop) → firstTold r ≡ firstBiop t → firstTold r′ ≡ firstBiop t → r ≡ r′
+determined-first-biop t r r′ p q = questions.first-determined t r r′ p q
+
+pub determined-is-dvb : (a : List ℕ) (r r′ : Bool) → r ≡ dvbAddress a → r′ ≡ dvbAddress a → r ≡ r′
+determined-is-dvb a r r′ p q = questions.dvb-determined a r r′ p q
+
+pub determined-read-short-name : (s : List ℕ) (r r′ : ShortNameRead) → shortTold r ≡ seen shortAt (readShortName s) → shortTold r′ ≡ seen shortAt (readShortName s) → r ≡ r′
+determined-read-short-name s r r′ p q = names.reading-determined s r r′ p q
+
+pub determined-write-short-name : (n : NameComponent) (s d : List ℕ) (r r′ : Told) (e e′ : List ℕ) → Short.Writes n s d r e → Short.Writes n s d r′ e′ → (r ≡ r′) × (e ≡ e′)
+determined-write-short-name n s d r r′ e e′ p q = names.writing-determined n s d e e′ r r′ p q
