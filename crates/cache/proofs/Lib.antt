@@ -2,3 +2,4 @@ pub mod Recorded
 pub mod Accepted
 pub mod Determined
 pub mod Worked
+pub mod Fetched
