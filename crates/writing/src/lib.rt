@@ -8,7 +8,7 @@ ghost use Rattle.reference.specs.declared.Check.the-variants.{Pass};
 ghost use Rattle.reference.specs.Layout.{layoutProfile};
 ghost use Rattle.reference.specs.Tables.{usedOf, ownedOf, profileOf};
 ghost use Rattle.reference.specs.Checks.{both, each, sum};
-ghost use Rattle.reference.specs.Writer.{ownSize, sizeOf, imageOf, countsCheck, roomCheck, typeCheck, ownShort, writeCheck, measured};
+ghost use Rattle.reference.specs.Writer.{ownSize, sizeOf, imageOf, countsCheck, roomCheck, typeCheck, ownShort, measureCheck, writeCheck, measured};
 ghost use Rattle.table.specs.Flat.{bodyOfTable, tablesFrom};
 ghost use Rattle.profiles.specs.Own.{OwnSound, PutAll, PutOwn};
 ghost use Rattle.writing.specs.Own.{countsIn, ownOn, afterOf, Placed};
@@ -167,6 +167,18 @@ fn check_output(t: &[u32], total: usize, room: usize) -> Check
     check_sizes(t)
 }
 
+// The same as `write_from`, of a table that measuring has passed, with the image's length.
+pub fn write_measured(t: &[u32], src: &[u8], out: &mut [u8], total: usize) -> Answer
+    requires { ⌜ (length (now t) ≡ 490) × (measureCheck (tablesFrom (now t)) (length (now src)) ≡ Pass) × (total ≡ sizeOf (usedOf (tablesFrom (now t)))) ⌝ }
+    ensures { λ r. ⌜ Writes (tablesFrom (now (t .entry))) (now (src .entry)) (now (out .entry)) r (now (out .exit)) ⌝ }
+{
+    let found = check_output(t, total, out.len());
+    if let Check::Refuse(r) = found {
+        return Answer::Refused(r);
+    }
+    Answer::Count(write_image(t, src, out))
+}
+
 // Writes the image at the start of `out` and answers its length; or refuses, and leaves `out` as it is.
 pub fn write_from(t: &[u32], src: &[u8], out: &mut [u8]) -> Answer
     requires { ⌜ length (now t) ≡ 490 ⌝ }
@@ -175,13 +187,7 @@ pub fn write_from(t: &[u32], src: &[u8], out: &mut [u8]) -> Answer
     let length = length_over(t, src.len());
     match length {
         Answer::Refused(r) => Answer::Refused(r),
-        Answer::Count(total) => {
-            let found = check_output(t, total, out.len());
-            if let Check::Refuse(r) = found {
-                return Answer::Refused(r);
-            }
-            Answer::Count(write_image(t, src, out))
-        }
+        Answer::Count(total) => write_measured(t, src, out, total),
     }
 }
 
