@@ -54,21 +54,21 @@ const PLACE_EXTRAS: u8 = 43;
 
 // The octets of an entry's fixed fields. Front: the type id's length and the profile count; tap: id, use, association, selector length; name: both
 // lengths; extra: tag and length.
-const FRONT_FIXED: usize = 8;
+pub const FRONT_FIXED: usize = 8;
 
-const TAP_FIXED: usize = 7;
+pub const TAP_FIXED: usize = 7;
 
-const NAME_FIXED: usize = 8;
+pub const NAME_FIXED: usize = 8;
 
-const EXTRA_FIXED: usize = 5;
+pub const EXTRA_FIXED: usize = 5;
 
 // A profile: its header; of BIOP also order octet, component count, both component headers and their fixed fields; of LiteOptions order octet,
 // component count, component header, address, name count and context length.
-const OPAQUE_FIXED: usize = 8;
+pub const OPAQUE_FIXED: usize = 8;
 
-const BIOP_FIXED: usize = 30;
+pub const BIOP_FIXED: usize = 30;
 
-const LITE_FIXED: usize = 47;
+pub const LITE_FIXED: usize = 47;
 
 // Inside a component with a length of one octet: ObjectLocation without its key, ConnBinder without its taps, and the most that it may hold.
 const LOCATION_FIXED: usize = 9;

@@ -1,0 +1,114 @@
+-- What the passes over profiles and entries find, put together: the counts agree, every mark holds, and the octets are the image's. Assumes nothing.
+use Prim.Native.Nat.{ℕ, _+_, _*_, _≤_}
+use mathlib.Core.Path.{_≡_, sym, ap, ap₂, _∙_}
+use mathlib.Core.Bool.{Bool, true, _&&_}
+use mathlib.Core.List.{List}
+use native.Mathlib.Omega.{arith}
+use lib.Bits.{bitOr}
+use lib.Dec.{leb, eqb}
+use lib.ListN.{getD}
+use borrow.Author.Tests.{leb-true, eqb-true, le-leb, eq-eqb}
+use Rattle.reference.specs.declared.View.{View}
+use Rattle.reference.specs.Writer.{sizeOf}
+use Rattle.table.specs.Flat.{viewFrom}
+use Rattle.table.proofs.Entries.{type-id-entry}
+use Rattle.exact.specs.Exact.{tapsExact}
+use Rattle.exact.proofs.Every.{and-left, and-right}
+use Rattle.measuring.specs.ByTable.{usedIn}
+use Rattle.measuring.proofs.ByTable.{sizes-by-table}
+use Rattle.measuring.proofs.Tables.{Agreeing}
+use Rattle.quick.specs.declared.Found.{Found}
+use Rattle.quick.specs.declared.Share.{Share}
+use Rattle.quick.specs.Marks.{holds, within, allWithin, entriesWithin, entriesSize, agreed, Finds, Profiles}
+use Rattle.quick.proofs.Marks.{or-holds, or-more}
+use Rattle.quick.proofs.Whole.{Inside, counts-pass}
+
+-- both hold
+all-of : {a b : Bool} → a ≡ true → b ≡ true → (a && b) ≡ true
+all-of p q = ap₂ (λ (a b : Bool). a && b) p q
+
+agrees : (used size total : ℕ) → agreed used size total ≡ true → (used ≤ size) × (total ≡ used)
+agrees used size total e = (leb-true used size (and-left (leb used size) (eqb total used) e), eqb-true total used (and-right (leb used size) (eqb total used) e))
+
+both-hold : (a b : ℕ) → holds (bitOr a b) ≡ true → (holds a ≡ true) × (holds b ≡ true)
+both-hold a b h = let x = sym (or-holds a b) ∙ h in (and-left (holds a) (holds b) x, and-right (holds a) (holds b) x)
+
+hold-both : (a b : ℕ) → holds a ≡ true → holds b ≡ true → holds (bitOr a b) ≡ true
+hold-both a b p q = or-more a b p q
+
+-- the ends of taps, names and extras
+module _ (t : List ℕ) (n : ℕ) where
+  abbrev tapEnds : Bool
+  tapEnds = allWithin n t 89 5 (getD t 3 0)
+
+  abbrev nameEnds : Bool
+  nameEnds = allWithin n t 266 2 (2 * getD t 4 0)
+
+  abbrev extraEnds : Bool
+  extraEnds = allWithin n t 395 3 (getD t 5 0)
+
+-- of what find_profiles gives
+module _ (t : List ℕ) (n : ℕ) (p : Share) (ps : Profiles n t p) where
+  abbrev taps : Bool
+  taps = agreed (getD t 3 0) 36 (p .taps)
+
+  abbrev names : Bool
+  names = agreed (getD t 4 0) 32 (p .names)
+
+  abbrev extras : Bool
+  extras = agreed (getD t 5 0) 32 (p .extras)
+
+  -- ---- the counts
+  pub agree : getD t 2 0 ≤ 8 → (taps && names && extras) ≡ true → Agreeing t
+  agree h x =
+      let (ta, sa) = agrees (getD t 3 0) 36 (p .taps) (and-left taps names (and-left (taps && names) extras x)) in
+      let (tb, sb) = agrees (getD t 4 0) 32 (p .names) (and-right taps names (and-left (taps && names) extras x)) in
+      let (tc, sc) = agrees (getD t 5 0) 32 (p .extras) (and-right (taps && names) extras x) in
+      record {
+        profiles = h;
+        taps = ta;
+        tapsSum = sym (ps .taps) ∙ sa;
+        names = tb;
+        namesSum = sym (ps .names) ∙ sb;
+        extras = tc;
+        extrasSum = sym (ps .extras) ∙ sc;
+      }
+
+  pub agree-back : Agreeing t → (taps && names && extras) ≡ true
+  agree-back g =
+      all-of (all-of (all-of (le-leb _ _ (g .taps)) (eq-eqb _ _ (ps .taps ∙ g .tapsSum))) (all-of (le-leb _ _ (g .names)) (eq-eqb _ _ (ps .names ∙ g .namesSum))))
+      (all-of (le-leb _ _ (g .extras)) (eq-eqb _ _ (ps .extras ∙ g .extrasSum)))
+
+  -- .. and find_entries
+  module _ (most : ℕ) (e : Found) (es : Finds most (entriesSize t) (tapsExact t (getD t 3 0)) (entriesWithin n t) e) where
+    -- ---- the image's length
+    pub octets : Agreeing t → 8 + getD t 1 0 + p .octets + e .octets ≡ sizeOf (usedIn t)
+    octets g = omega (arith, ps .octets, es .octets, sizes-by-table t (counts-pass t g), ap (λ (v : View). v .len) (type-id-entry t))
+
+    -- ---- the marks
+    module _ (m : ℕ) (front : holds m ≡ within n (viewFrom t 0)) where
+      abbrev marks : ℕ
+      marks = bitOr (bitOr (p .fields) (e .fields)) (bitOr (bitOr m (p .ends)) (e .ends))
+
+      pub inside : holds marks ≡ true → Inside t n
+      inside h =
+          let (fields, ends) = both-hold (bitOr (p .fields) (e .fields)) (bitOr (bitOr m (p .ends)) (e .ends)) h in
+          let (pf, ef) = both-hold (p .fields) (e .fields) fields in
+          let (before, entries) = both-hold (bitOr m (p .ends)) (e .ends) ends in
+          let (first, pe) = both-hold m (p .ends) before in
+          let all = sym (es .ends) ∙ entries in
+          record {
+            profileFields = sym (ps .fields) ∙ pf;
+            tapFields = sym (es .fields) ∙ ef;
+            front = sym front ∙ first;
+            profiles = sym (ps .ends) ∙ pe;
+            taps = and-left (tapEnds t n) (nameEnds t n) (and-left (tapEnds t n && nameEnds t n) (extraEnds t n) all);
+            names = and-right (tapEnds t n) (nameEnds t n) (and-left (tapEnds t n && nameEnds t n) (extraEnds t n) all);
+            extras = and-right (tapEnds t n && nameEnds t n) (extraEnds t n) all;
+          }
+
+      pub inside-back : Inside t n → holds marks ≡ true
+      inside-back i =
+          hold-both (bitOr (p .fields) (e .fields)) _ (hold-both (p .fields) (e .fields) (ps .fields ∙ i .profileFields) (es .fields ∙ i .tapFields))
+          (hold-both (bitOr m (p .ends)) (e .ends) (hold-both m (p .ends) (front ∙ i .front) (ps .ends ∙ i .profiles))
+          (es .ends ∙ all-of (all-of (i .taps) (i .names)) (i .extras)))

@@ -1,0 +1,96 @@
+-- What one pass over a lent table finds. A mark is a number that stays below 65536 exactly if something holds. Assumes nothing.
+use Prim.Native.Nat.{ℕ, zero, suc, _+_, _*_, _<_, _≤_}
+use mathlib.Core.Path.{_≡_}
+use mathlib.Core.Bool.{Bool, true, false, _&&_}
+use mathlib.Core.List.{List}
+use lib.Dec.{ltb, leb, eqb}
+use lib.ListN.{getD}
+use Rattle.reference.specs.declared.View.{View}
+use Rattle.reference.specs.declared.Check.{Check}
+use Rattle.reference.specs.declared.Check.the-variants.{Pass, Refuse}
+use Rattle.reference.specs.Checks.{sum}
+use Rattle.reference.specs.Tables.{tapsIn, namesIn, extrasIn, bodyView}
+use Rattle.reference.specs.Writer.{tapSize, nameSize, extraSize, counted, measureCheck}
+use Rattle.table.specs.Flat.{bodyFrom, bodyOfTable, tablesFrom}
+use Rattle.exact.specs.Exact.{every, profileExact, profilesExact, exact}
+use Rattle.measuring.specs.ByTable.{fixedSize, entrySize, usedIn}
+use Rattle.quick.specs.declared.Found.{Found as Sums}
+use Rattle.quick.specs.declared.Share.{Share}
+use Rattle.quick.specs.declared.Quick.{Quick}
+use Rattle.quick.specs.declared.Quick.the-variants.{Length, Unknown}
+
+-- the sum of what g makes of the numbers before n
+unfoldable pub total : (ℕ → ℕ) → ℕ → ℕ
+total g zero = 0
+total g (suc n) = total g n + g n
+
+-- what a mark marks holds
+abbrev pub holds : ℕ → Bool
+holds mark = ltb mark 65536
+
+-- a view ends within n octets
+abbrev pub within : ℕ → View → Bool
+within n v = leb (v .at + v .len) n
+
+-- the views that stand at first, first + width, ..: the sum of their lengths, and whether each ends within n octets
+abbrev pub lengthsOf : List ℕ → ℕ → ℕ → ℕ → ℕ
+lengthsOf t first width count = total (λ i. getD t (first + width * i + 1) 0) count
+
+abbrev pub allWithin : ℕ → List ℕ → ℕ → ℕ → ℕ → Bool
+allWithin n t first width count = every (λ i. leb (getD t (first + width * i) 0 + getD t (first + width * i + 1) 0) n) count
+
+-- .. of all used profiles
+abbrev pub profilesWithin : ℕ → List ℕ → Bool
+profilesWithin n t = every (λ i. within n (bodyView (bodyOfTable t i))) (getD t 2 0)
+
+-- .. of all used taps, names and extras, and the octets that they stand for
+abbrev pub entriesWithin : ℕ → List ℕ → Bool
+entriesWithin n t = allWithin n t 89 5 (getD t 3 0) && allWithin n t 266 2 (2 * getD t 4 0) && allWithin n t 395 3 (getD t 5 0)
+
+abbrev pub entriesSize : List ℕ → ℕ
+entriesSize t = sum tapSize (usedIn t .taps) + (sum nameSize (usedIn t .names) + sum extraSize (usedIn t .extras))
+
+-- octets, at most so many, and the marks of fields and ends, as a pass over entries sums them
+pub record Finds (most size : ℕ) (fit inside : Bool) (r : Sums) : Type 0 where
+  pub octets : r .octets ≡ size
+  pub fields : holds (r .fields) ≡ fit
+  pub ends : holds (r .ends) ≡ inside
+  pub small : r .octets ≤ most
+
+-- one profile of ten numbers, over a source of n octets
+pub record Shares (n : ℕ) (l : List ℕ) (r : Share) : Type 0 where
+  pub taps : r .taps ≡ tapsIn (bodyFrom l)
+  pub names : r .names ≡ namesIn (bodyFrom l)
+  pub extras : r .extras ≡ extrasIn (bodyFrom l)
+  pub octets : r .octets ≡ fixedSize (bodyFrom l) + bodyView (bodyFrom l) .len
+  pub fields : holds (r .fields) ≡ profileExact l
+  pub ends : holds (r .ends) ≡ within n (bodyView (bodyFrom l))
+  pub small : (r .taps < 0x100000000) × (r .names < 0x100000000) × (r .extras < 0x100000000) × (r .octets < 0x200000000)
+
+-- all used profiles of a table
+pub record Profiles (n : ℕ) (t : List ℕ) (r : Share) : Type 0 where
+  pub taps : r .taps ≡ counted tapsIn (usedIn t .profiles)
+  pub names : r .names ≡ counted namesIn (usedIn t .profiles)
+  pub extras : r .extras ≡ counted extrasIn (usedIn t .profiles)
+  pub octets : r .octets ≡ sum entrySize (usedIn t .profiles)
+  pub fields : holds (r .fields) ≡ profilesExact t (getD t 2 0)
+  pub ends : holds (r .ends) ≡ profilesWithin n t
+  pub small : r .octets < 0x10000000000
+
+-- a table's used count: within the table's size, and the sum of the profiles' counts
+abbrev pub agreed : ℕ → ℕ → ℕ → Bool
+agreed used size sums = leb used size && eqb sums used
+
+-- a check passes
+abbrev pub passing : Check → Bool
+passing Pass = true
+passing (Refuse r) = false
+
+-- the length, if it can be found
+abbrev pub quickly : Bool → ℕ → Quick
+quickly true m = Length m
+quickly false m = Unknown
+
+-- a table that is exact and whose image can be measured over a source of n octets
+abbrev pub sound : List ℕ → ℕ → Bool
+sound t n = exact t && passing (measureCheck (tablesFrom t) n)
