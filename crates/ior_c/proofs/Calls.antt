@@ -5,6 +5,13 @@ use mathlib.Core.Bool.{Bool, true, false, _&&_}
 use mathlib.Core.Logic.{_≢_}
 use mathlib.Core.List.{List}
 use Rattle.reference.specs.declared.Answer.{Answer as Told}
+use Rattle.reference.specs.declared.Answer.the-variants.{Count}
+use Rattle.reference.specs.declared.Check.{Check}
+use Rattle.reference.specs.declared.Check.the-variants.{Pass}
+use Rattle.reference.specs.declared.Tables.{Tables}
+use Rattle.reference.specs.Tables.{usedOf}
+use Rattle.reference.specs.Writer.{sizeOf, measureCheck, measured}
+use Rattle.reference.specs.Writer as Writer
 use lib.Dec.{eqb}
 use lib.ListN.{length}
 use borrow.Author.Tests.{eq-eqb, ne-eqb, eqb-true, le-leb, lt-leb}
@@ -31,6 +38,11 @@ module _ {asked : Bool} {x : Told} {y a d : List ℕ} where
 
   pub not-given : asked ≡ false → Gives asked x y a d 255 a d
   not-given t = record { tells = not-told t; leaves = sym (picks-second asked y d t) }
+
+-- the length, where measuring passes
+pub measured-passed : (t : Tables) (s : List ℕ) → measureCheck t (length s) ≡ Pass → measured t s ≡ Count (sizeOf (usedOf t))
+unfolding measured
+measured-passed t s e = ap (λ (c : Check). Writer.told c (sizeOf (usedOf t))) e
 
 -- ---- whatever code meets these contracts gives the same result and leaves the same in its arrays
 

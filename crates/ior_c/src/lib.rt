@@ -26,6 +26,8 @@ use questions::TapNumbers;
 use questions::is_dvb;
 use questions::object_kind;
 use questions::tap_numbers;
+use quick::Quick;
+use quick::quick_length;
 use reading::read_leading_into;
 use reading::read_whole_into;
 use reference::Answer;
@@ -36,6 +38,7 @@ use reference::wrong;
 use table::BIOP;
 use table::SIZE;
 use writing::write_from;
+use writing::write_measured;
 
 // What each function answers when an array has another length than it must have, or a table is not exact.
 pub const NOT_ASKED: u32 = 255;
@@ -117,9 +120,8 @@ pub extern "C" fn ior_read_whole(s: &[u8], table: &mut [u32], answer: &mut [u64]
     put_answer(read_whole_into(s, table), answer)
 }
 
-// The length of the image of the table over the source s; or 6, 8, 9 or 10.
-#[no_mangle]
-pub extern "C" fn ior_length(table: &[u32], s: &[u8], answer: &mut [u64]) -> u32
+// The length of the image of the table over the source s, or what is wrong.
+fn tell_length(table: &[u32], s: &[u8], answer: &mut [u64]) -> u32
     ensures { λ r. ⌜ Tells (askable (now (table .entry)) (length (now (answer .entry)))) (numberOf (measured (tablesFrom (now (table .entry))) (now (s .entry)))) (numbersOf (measured (tablesFrom (now (table .entry))) (now (s .entry)))) (now (answer .entry)) r (now (answer .exit)) ⌝ }
 {
     if !can_ask(table, answer.len()) {
@@ -128,15 +130,42 @@ pub extern "C" fn ior_length(table: &[u32], s: &[u8], answer: &mut [u64]) -> u32
     put_answer(length_from(table, s), answer)
 }
 
-// Writes the image of the table over the source s at the start of `out`: its length, or the refusal, which leaves `out` as it is.
+// The length of the image of the table over the source s; or 6, 8, 9 or 10. Where nothing is wrong, one pass over the table finds it.
 #[no_mangle]
-pub extern "C" fn ior_write(table: &[u32], s: &[u8], out: &mut [u8], answer: &mut [u64]) -> u32
+pub extern "C" fn ior_length(table: &[u32], s: &[u8], answer: &mut [u64]) -> u32
+    ensures { λ r. ⌜ Tells (askable (now (table .entry)) (length (now (answer .entry)))) (numberOf (measured (tablesFrom (now (table .entry))) (now (s .entry)))) (numbersOf (measured (tablesFrom (now (table .entry))) (now (s .entry)))) (now (answer .entry)) r (now (answer .exit)) ⌝ }
+{
+    if !is_sized(SIZE, table.len(), answer.len()) {
+        return NOT_ASKED;
+    }
+    match quick_length(table, s.len()) {
+        Quick::Length(total) => put_answer(Answer::Count(total), answer),
+        Quick::Unknown => tell_length(table, s, answer),
+    }
+}
+
+// Writes the image of the table, measuring it first, or says what is wrong.
+fn measure_and_write(table: &[u32], s: &[u8], out: &mut [u8], answer: &mut [u64]) -> u32
     ensures { λ r. ⌜ Gives (askable (now (table .entry)) (length (now (answer .entry)))) (written (tablesFrom (now (table .entry))) (now (s .entry)) (now (out .entry))) (leaves (tablesFrom (now (table .entry))) (now (s .entry)) (now (out .entry))) (now (answer .entry)) (now (out .entry)) r (now (answer .exit)) (now (out .exit)) ⌝ }
 {
     if !can_ask(table, answer.len()) {
         return NOT_ASKED;
     }
     put_answer(write_from(table, s, out), answer)
+}
+
+// Writes the image of the table over the source s at the start of `out`: its length, or the refusal, which leaves `out` as it is.
+#[no_mangle]
+pub extern "C" fn ior_write(table: &[u32], s: &[u8], out: &mut [u8], answer: &mut [u64]) -> u32
+    ensures { λ r. ⌜ Gives (askable (now (table .entry)) (length (now (answer .entry)))) (written (tablesFrom (now (table .entry))) (now (s .entry)) (now (out .entry))) (leaves (tablesFrom (now (table .entry))) (now (s .entry)) (now (out .entry))) (now (answer .entry)) (now (out .entry)) r (now (answer .exit)) (now (out .exit)) ⌝ }
+{
+    if !is_sized(SIZE, table.len(), answer.len()) {
+        return NOT_ASKED;
+    }
+    match quick_length(table, s.len()) {
+        Quick::Length(total) => put_answer(write_measured(table, s, out, total), answer),
+        Quick::Unknown => measure_and_write(table, s, out, answer),
+    }
 }
 
 // ---- questions

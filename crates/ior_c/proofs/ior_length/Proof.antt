@@ -1,39 +1,70 @@
--- `ior_c::ior_length` meets its contract. What is measured is what the core measures, and its answer is put. Assumes nothing.
-use borrow.Author.Tests.{not-true, not-false}
-use mathlib.Core.Path.{sym, _∙_}
-use Rattle.ior_c.proofs.Calls.{not-told, answer-told, askable-lengths}
+-- `ior_c::ior_length` meets its contract. What one pass finds is the length; else the core tells. Assumes nothing.
 use borrow.Author.Needs.{needs}
+use borrow.Author.Tests.{not-true, not-false}
+use mathlib.Core.Path.{_≡_, sym, ap, _∙_}
+use mathlib.Core.Bool.{true}
+use lib.ListN.{length}
+use Rattle.reference.specs.declared.Answer.the-variants.{Count}
+use Rattle.ior_c.specs.Said.{sized}
+use Rattle.quick.proofs.Whole.{found}
+use Rattle.ior_c.proofs.Calls.{not-told, answer-told, lengths, not-askable, askable-by-table, measured-passed}
 use Rattle.ior_c.proofs.ior_length.Statement.{statement}
 use Rattle.ior_c.proofs.ior_length.Tie as tie
 
-can-ask-requires : tie.Need-can-ask-requires
-can-ask-requires c κs = search needs
+-- both arrays have their lengths
+is-asked : (i : tie.Else1) → let a = i .before .before .before .before .before .args in sized 490 (length (a .table .now)) (length (a .answer .now)) ≡ true
+is-asked i = sym (i .before .is-sized .ensures) ∙ not-false (i .before .is-sized .result) (i .if1 .left)
+
+is-sized-requires : tie.Need-is-sized-requires
+is-sized-requires c κs = search needs
 
 returns : tie.Need-returns
-returns c = not-told (sym (c .before .can-ask .ensures) ∙ not-true (c .before .can-ask .result) (c .if1 .taken))
+returns c = not-told (not-askable _ _ (sym (c .before .is-sized .ensures) ∙ not-true (c .before .is-sized .result) (c .if1 .taken)))
 
-length-from-requires : tie.Need-length-from-requires
-length-from-requires c κs = askable-lengths _ _ ((sym (c .before .can-ask .ensures) ∙ not-false (c .before .can-ask .result) (c .if1 .left))) .0
+quick-length-requires : tie.Need-quick-length-requires
+quick-length-requires c κs = lengths 490 _ _ (is-asked c) .0
+
+enum-known-total : tie.Need-enum-known-total
+enum-known-total c = search needs
 
 put-answer-requires : tie.Need-put-answer-requires
-put-answer-requires c κs = askable-lengths _ _ ((sym (c .before .before .before .can-ask .ensures) ∙ not-false (c .before .before .before .can-ask .result) (c .before .before .if1 .left))) .1
+put-answer-requires c κs = lengths 490 _ _ (is-asked (c .before .before .before .before .before)) .1
+
+enum-told : tie.Need-enum-told
+enum-told c = search needs
+
+tell-length-requires : tie.Need-tell-length-requires
+tell-length-requires c κs = search needs
 
 same-length : tie.Need-same-length
 same-length c = search needs
 
 returns-2 : tie.Need-returns-2
 returns-2 c =
-    let r = c .before .before .before .before in
-    let i = r .before in
-    answer-told (sym (i .before .can-ask .ensures) ∙ not-false (i .before .can-ask .result) (i .if1 .left)) (r .length-from .ensures) (c .before .before .put-answer .ensures)
+    let k = c .before .before .before .before .before in
+    let q = k .before .before in
+    let i = q .before in
+    let (fits, passes, size) = found _ _ _ (sym (k .total .given .1) ∙ q .quick-length .ensures) in
+    answer-told (askable-by-table _ _ (is-asked i) ∙ fits) (ap Count size ∙ sym (measured-passed _ _ passes)) (c .before .before .put-answer .ensures)
+
+same-length-2 : tie.Need-same-length-2
+same-length-2 c = search needs
+
+returns-3 : tie.Need-returns-3
+returns-3 c = search needs
 
 pub ior-length-spec : {M : Type 1} → statement M
 ior-length-spec =
     tie.close
     (tie.spec
-    can-ask-requires
+    is-sized-requires
     returns
-    length-from-requires
+    quick-length-requires
+    enum-known-total
     put-answer-requires
+    enum-told
+    tell-length-requires
     same-length
-    returns-2)
+    returns-2
+    same-length-2
+    returns-3)
