@@ -12,14 +12,13 @@ use Rattle.reference.specs.declared.View.{View}
 use Rattle.reference.specs.Writer.{sizeOf}
 use Rattle.table.specs.Flat.{viewFrom}
 use Rattle.table.proofs.Entries.{type-id-entry}
-use Rattle.exact.specs.Exact.{tapsExact}
 use Rattle.exact.proofs.Every.{and-left, and-right}
 use Rattle.measuring.specs.ByTable.{usedIn}
 use Rattle.measuring.proofs.ByTable.{sizes-by-table}
 use Rattle.measuring.proofs.Tables.{Agreeing}
 use Rattle.quick.specs.declared.Found.{Found}
 use Rattle.quick.specs.declared.Share.{Share}
-use Rattle.quick.specs.Marks.{holds, within, allWithin, entriesWithin, entriesSize, agreed, Finds, Profiles}
+use Rattle.quick.specs.Marks.{holds, within, allWithin, agreed, allAgreed, EntriesFound, Profiles}
 use Rattle.quick.proofs.Marks.{or-holds, or-more}
 use Rattle.quick.proofs.Whole.{Inside, counts-pass}
 
@@ -32,9 +31,6 @@ agrees used size total e = (leb-true used size (and-left (leb used size) (eqb to
 
 both-hold : (a b : ℕ) → holds (bitOr a b) ≡ true → (holds a ≡ true) × (holds b ≡ true)
 both-hold a b h = let x = sym (or-holds a b) ∙ h in (and-left (holds a) (holds b) x, and-right (holds a) (holds b) x)
-
-hold-both : (a b : ℕ) → holds a ≡ true → holds b ≡ true → holds (bitOr a b) ≡ true
-hold-both a b p q = or-more a b p q
 
 -- the ends of taps, names and extras
 module _ (t : List ℕ) (n : ℕ) where
@@ -59,7 +55,7 @@ module _ (t : List ℕ) (n : ℕ) (p : Share) (ps : Profiles n t p) where
   extras = agreed (getD t 5 0) 32 (p .extras)
 
   -- ---- the counts
-  pub agree : getD t 2 0 ≤ 8 → (taps && names && extras) ≡ true → Agreeing t
+  pub agree : getD t 2 0 ≤ 8 → allAgreed t (p .taps) (p .names) (p .extras) ≡ true → Agreeing t
   agree h x =
       let (ta, sa) = agrees (getD t 3 0) 36 (p .taps) (and-left taps names (and-left (taps && names) extras x)) in
       let (tb, sb) = agrees (getD t 4 0) 32 (p .names) (and-right taps names (and-left (taps && names) extras x)) in
@@ -74,13 +70,13 @@ module _ (t : List ℕ) (n : ℕ) (p : Share) (ps : Profiles n t p) where
         extrasSum = sym (ps .extras) ∙ sc;
       }
 
-  pub agree-back : Agreeing t → (taps && names && extras) ≡ true
+  pub agree-back : Agreeing t → allAgreed t (p .taps) (p .names) (p .extras) ≡ true
   agree-back g =
       all-of (all-of (all-of (le-leb _ _ (g .taps)) (eq-eqb _ _ (ps .taps ∙ g .tapsSum))) (all-of (le-leb _ _ (g .names)) (eq-eqb _ _ (ps .names ∙ g .namesSum))))
       (all-of (le-leb _ _ (g .extras)) (eq-eqb _ _ (ps .extras ∙ g .extrasSum)))
 
   -- .. and find_entries
-  module _ (most : ℕ) (e : Found) (es : Finds most (entriesSize t) (tapsExact t (getD t 3 0)) (entriesWithin n t) e) where
+  module _ (e : Found) (es : EntriesFound n t e) where
     -- ---- the image's length
     pub octets : Agreeing t → 8 + getD t 1 0 + p .octets + e .octets ≡ sizeOf (usedIn t)
     octets g = omega (arith, ps .octets, es .octets, sizes-by-table t (counts-pass t g), ap (λ (v : View). v .len) (type-id-entry t))
@@ -109,6 +105,6 @@ module _ (t : List ℕ) (n : ℕ) (p : Share) (ps : Profiles n t p) where
 
       pub inside-back : Inside t n → holds marks ≡ true
       inside-back i =
-          hold-both (bitOr (p .fields) (e .fields)) _ (hold-both (p .fields) (e .fields) (ps .fields ∙ i .profileFields) (es .fields ∙ i .tapFields))
-          (hold-both (bitOr m (p .ends)) (e .ends) (hold-both m (p .ends) (front ∙ i .front) (ps .ends ∙ i .profiles))
+          or-more (bitOr (p .fields) (e .fields)) _ (or-more (p .fields) (e .fields) (ps .fields ∙ i .profileFields) (es .fields ∙ i .tapFields))
+          (or-more (bitOr m (p .ends)) (e .ends) (or-more m (p .ends) (front ∙ i .front) (ps .ends ∙ i .profiles))
           (es .ends ∙ all-of (all-of (i .taps) (i .names)) (i .extras)))

@@ -12,7 +12,7 @@ use Rattle.reference.specs.Checks.{sum}
 use Rattle.reference.specs.Tables.{tapsIn, namesIn, extrasIn, bodyView}
 use Rattle.reference.specs.Writer.{tapSize, nameSize, extraSize, counted, measureCheck}
 use Rattle.table.specs.Flat.{bodyFrom, bodyOfTable, tablesFrom}
-use Rattle.exact.specs.Exact.{every, profileExact, profilesExact, exact}
+use Rattle.exact.specs.Exact.{every, profileExact, profilesExact, tapsExact, exact}
 use Rattle.measuring.specs.ByTable.{fixedSize, entrySize, usedIn}
 use Rattle.quick.specs.declared.Found.{Found as Sums}
 use Rattle.quick.specs.declared.Share.{Share}
@@ -57,6 +57,16 @@ pub record Finds (most size : ℕ) (fit inside : Bool) (r : Sums) : Type 0 where
   pub ends : holds (r .ends) ≡ inside
   pub small : r .octets ≤ most
 
+-- .. of views, of all used taps, and of all used taps, names and extras
+abbrev pub ViewsFound : ℕ → List ℕ → ℕ → ℕ → ℕ → Sums → Type 0
+ViewsFound n t first width count r = Finds 0x4000000000 (lengthsOf t first width count) true (allWithin n t first width count) r
+
+abbrev pub TapsFound : ℕ → List ℕ → Sums → Type 0
+TapsFound n t r = Finds 0x4000000000 (lengthsOf t 89 5 (getD t 3 0)) (tapsExact t (getD t 3 0)) (allWithin n t 89 5 (getD t 3 0)) r
+
+abbrev pub EntriesFound : ℕ → List ℕ → Sums → Type 0
+EntriesFound n t r = Finds 0xD000000000 (entriesSize t) (tapsExact t (getD t 3 0)) (entriesWithin n t) r
+
 -- one profile of ten numbers, over a source of n octets
 pub record Shares (n : ℕ) (l : List ℕ) (r : Share) : Type 0 where
   pub taps : r .taps ≡ tapsIn (bodyFrom l)
@@ -80,6 +90,9 @@ pub record Profiles (n : ℕ) (t : List ℕ) (r : Share) : Type 0 where
 -- a table's used count: within the table's size, and the sum of the profiles' counts
 abbrev pub agreed : ℕ → ℕ → ℕ → Bool
 agreed used size sums = leb used size && eqb sums used
+
+abbrev pub allAgreed : List ℕ → ℕ → ℕ → ℕ → Bool
+allAgreed t taps names extras = agreed (getD t 3 0) 36 taps && agreed (getD t 4 0) 32 names && agreed (getD t 5 0) 32 extras
 
 -- a check passes
 abbrev pub passing : Check → Bool

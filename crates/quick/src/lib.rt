@@ -3,16 +3,15 @@
 //
 // A mark is a number that stays below 65536 exactly if something holds; marks or'ed together stay below exactly if all of it holds.
 ghost use mathlib.Core.Path.{_≡_};
-ghost use mathlib.Core.Bool.{true, _&&_};
 ghost use mathlib.Core.Logic.{_≢_};
 ghost use Prim.Native.Nat.{_+_, _*_, _≤_, _<_};
 ghost use lib.Dec.{leb, eqb};
 ghost use lib.ListN.{length, getD};
 ghost use Rattle.octets.specs.Octets.{part};
 ghost use Rattle.reference.specs.Writer.{sizeOf};
-ghost use Rattle.exact.specs.Exact.{locationExact, addressExact, tapExact, tapsExact};
+ghost use Rattle.exact.specs.Exact.{locationExact, addressExact, tapExact};
 ghost use Rattle.measuring.specs.ByTable.{usedIn};
-ghost use Rattle.quick.specs.Marks.{holds, lengthsOf, allWithin, entriesWithin, entriesSize, Finds, Shares, Profiles, agreed, quickly, sound};
+ghost use Rattle.quick.specs.Marks.{holds, Shares, Profiles, TapsFound, ViewsFound, EntriesFound, agreed, allAgreed, quickly, sound};
 use measuring::BIOP_FIXED;
 use measuring::EXTRA_FIXED;
 use measuring::FRONT_FIXED;
@@ -31,6 +30,25 @@ use table::OPAQUE;
 
 // Every mark below it holds.
 const BOUND: usize = 65536;
+
+// Where profiles, taps' fields, and the views of taps, names and extras begin in a table, and how far it is to the next. A name has two views.
+const PROFILES_AT: usize = 6;
+
+const PROFILE_WIDTH: usize = 10;
+
+const TAPS_AT: usize = 86;
+
+const TAP_VIEWS_AT: usize = 89;
+
+const TAP_WIDTH: usize = 5;
+
+const NAME_VIEWS_AT: usize = 266;
+
+const VIEW_WIDTH: usize = 2;
+
+const EXTRA_VIEWS_AT: usize = 395;
+
+const EXTRA_WIDTH: usize = 3;
 
 // A length that was found, or nothing.
 pub enum Quick {
@@ -166,7 +184,7 @@ fn find_profiles(t: &[u32], n: usize) -> Share
     let mut ends: usize = 0;
     let mut i: usize = 0;
     while i < used {
-        let one = profile_share(t, 6 + 10 * i, n);
+        let one = profile_share(t, PROFILES_AT + PROFILE_WIDTH * i, n);
         taps += one.taps;
         names += one.names;
         extras += one.extras;
@@ -188,7 +206,7 @@ fn find_profiles(t: &[u32], n: usize) -> Share
 // The used taps. The view of a tap's selector stands behind its three fields.
 fn find_taps(t: &[u32], n: usize) -> Found
     requires { ⌜ (length (now t) ≡ 490) × (n ≤ 65535) × (getD (now t) 3 0 ≤ 36) ⌝ }
-    ensures { λ r. ⌜ Finds 0x4000000000 (lengthsOf (now (t .entry)) 89 5 (getD (now (t .entry)) 3 0)) (tapsExact (now (t .entry)) (getD (now (t .entry)) 3 0)) (allWithin n (now (t .entry)) 89 5 (getD (now (t .entry)) 3 0)) r ⌝ }
+    ensures { λ r. ⌜ TapsFound n (now (t .entry)) r ⌝ }
 {
     let used = t[3] as usize;
     let mut octets: usize = 0;
@@ -196,9 +214,9 @@ fn find_taps(t: &[u32], n: usize) -> Found
     let mut ends: usize = 0;
     let mut i: usize = 0;
     while i < used {
-        let at = 89 + 5 * i;
+        let at = TAP_VIEWS_AT + TAP_WIDTH * i;
         octets += t[at + 1] as usize;
-        fields = fields | tap_mark(t, 86 + 5 * i);
+        fields = fields | tap_mark(t, TAPS_AT + TAP_WIDTH * i);
         ends = ends | end_mark(t, at, n);
         i += 1;
     }
@@ -212,7 +230,7 @@ fn find_taps(t: &[u32], n: usize) -> Found
 // The views that stand at first, first + width, ..
 fn find_views(t: &[u32], first: usize, width: usize, count: usize, n: usize) -> Found
     requires { ⌜ (length (now t) ≡ 490) × (n ≤ 65535) × (count ≤ 64) × (first + width * count + 2 ≤ 490 + width) ⌝ }
-    ensures { λ r. ⌜ Finds 0x4000000000 (lengthsOf (now (t .entry)) first width count) true (allWithin n (now (t .entry)) first width count) r ⌝ }
+    ensures { λ r. ⌜ ViewsFound n (now (t .entry)) first width count r ⌝ }
 {
     let mut octets: usize = 0;
     let mut ends: usize = 0;
@@ -242,7 +260,7 @@ fn is_agreed(used: usize, size: usize, total: usize) -> bool
 
 fn are_agreed(t: &[u32], taps: usize, names: usize, extras: usize) -> bool
     requires { ⌜ length (now t) ≡ 490 ⌝ }
-    ensures { λ r. ⌜ r ≡ (agreed (getD (now (t .entry)) 3 0) 36 taps && agreed (getD (now (t .entry)) 4 0) 32 names && agreed (getD (now (t .entry)) 5 0) 32 extras) ⌝ }
+    ensures { λ r. ⌜ r ≡ allAgreed (now (t .entry)) taps names extras ⌝ }
 {
     if !is_agreed(t[3] as usize, TAPS, taps) {
         return false;
@@ -253,14 +271,14 @@ fn are_agreed(t: &[u32], taps: usize, names: usize, extras: usize) -> bool
     is_agreed(t[5] as usize, EXTRAS, extras)
 }
 
-// The used taps, names and extras together, with their fixed fields. A name has two views.
+// The used taps, names and extras together, with their fixed fields.
 fn find_entries(t: &[u32], n: usize) -> Found
     requires { ⌜ (length (now t) ≡ 490) × (n ≤ 65535) × (getD (now t) 3 0 ≤ 36) × (getD (now t) 4 0 ≤ 32) × (getD (now t) 5 0 ≤ 32) ⌝ }
-    ensures { λ r. ⌜ Finds 0xD000000000 (entriesSize (now (t .entry))) (tapsExact (now (t .entry)) (getD (now (t .entry)) 3 0)) (entriesWithin n (now (t .entry))) r ⌝ }
+    ensures { λ r. ⌜ EntriesFound n (now (t .entry)) r ⌝ }
 {
     let taps = find_taps(t, n);
-    let names = find_views(t, 266, 2, 2 * t[4] as usize, n);
-    let extras = find_views(t, 395, 3, t[5] as usize, n);
+    let names = find_views(t, NAME_VIEWS_AT, VIEW_WIDTH, 2 * t[4] as usize, n);
+    let extras = find_views(t, EXTRA_VIEWS_AT, EXTRA_WIDTH, t[5] as usize, n);
     let fixed = TAP_FIXED * t[3] as usize
         + NAME_FIXED * t[4] as usize
         + EXTRA_FIXED * t[5] as usize;

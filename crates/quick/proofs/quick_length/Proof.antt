@@ -85,8 +85,8 @@ returns-4 c =
     let t = s .args .t .now in
     let n = s .args .n in
     let g = agreement k in
-    let size = octets t n (p .find-profiles .result) (p .find-profiles .ensures) _ (e .find-entries .result) (e .find-entries .ensures) g in
-    let w : Whole t n = record { source = omega arith; counts = g; inside = inside t n (p .find-profiles .result) (p .find-profiles .ensures) _ (e .find-entries .result) (e .find-entries .ensures) (m .end-mark .result) (m .end-mark .ensures) (lt-ltb _ _ (c .before .if4 .taken)); image = omega (arith, size) } in
+    let size = octets t n (p .find-profiles .result) (p .find-profiles .ensures) (e .find-entries .result) (e .find-entries .ensures) g in
+    let w : Whole t n = record { source = omega arith; counts = g; inside = inside t n (p .find-profiles .result) (p .find-profiles .ensures) (e .find-entries .result) (e .find-entries .ensures) (m .end-mark .result) (m .end-mark .ensures) (lt-ltb _ _ (c .before .if4 .taken)); image = omega (arith, size) } in
     ap Length size ∙ ap (λ (b : Bool). quickly b (sizeOf (usedIn t))) (sym (sounds t n w))
 
 returns-5 : tie.Need-returns-5
@@ -98,7 +98,7 @@ returns-5 c =
     let s = p .before .before .before .before .before in
     let t = s .args .t .now in
     let n = s .args .n in
-    unknown t n _ (λ w. let h = w .image in absurd (omega (arith, octets t n (p .find-profiles .result) (p .find-profiles .ensures) _ (e .find-entries .result) (e .find-entries .ensures) (w .counts))))
+    unknown t n _ (λ w. let h = w .image in absurd (omega (arith, octets t n (p .find-profiles .result) (p .find-profiles .ensures) (e .find-entries .result) (e .find-entries .ensures) (w .counts))))
 
 returns-6 : tie.Need-returns-6
 returns-6 c =
@@ -109,7 +109,7 @@ returns-6 c =
     let s = p .before .before .before .before .before in
     let t = s .args .t .now in
     let n = s .args .n in
-    unknown t n _ (λ w. contradicts (le-ltb _ _ (c .if4 .left)) (inside-back t n (p .find-profiles .result) (p .find-profiles .ensures) _ (e .find-entries .result) (e .find-entries .ensures) (m .end-mark .result) (m .end-mark .ensures) (w .inside)))
+    unknown t n _ (λ w. contradicts (le-ltb _ _ (c .if4 .left)) (inside-back t n (p .find-profiles .result) (p .find-profiles .ensures) (e .find-entries .result) (e .find-entries .ensures) (m .end-mark .result) (m .end-mark .ensures) (w .inside)))
 
 pub quick-length-spec : {M : Type 1} → statement M
 quick-length-spec =
