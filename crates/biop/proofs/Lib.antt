@@ -3,4 +3,3 @@ pub mod Location
 pub mod Header
 pub mod Beginning
 pub mod Rest
-pub mod Bounds

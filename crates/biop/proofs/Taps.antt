@@ -3,11 +3,9 @@ use Prim.Native.Nat.{ℕ, _+_, _-_, _<_, _≤_}
 use mathlib.Core.Path.{_≡_, _∙_}
 use mathlib.Core.List.{List}
 use native.Mathlib.Nat.{add-assoc}
-use native.Mathlib.Omega.{arith}
 use Rattle.octets.specs.Octets.{be, part}
 use Rattle.reference.specs.Reader.{ok, refused, refusal, number, done, readTap}
 use Rattle.reference.proofs.Steps.{need-cut, need-pass, run-cut, run-pass}
-use Rattle.components.proofs.Grows.{Grows, head-and-run}
 
 module _ (d : List ℕ) (pos end : ℕ) where
   pub tap-cut : end < pos + 7 → readTap d pos end ≡ refused (refusal 1 11 (pos + 7) end)
@@ -24,10 +22,3 @@ module _ (d : List ℕ) (pos end : ℕ) where
       (pos + 7 + be (part d (pos + 6) 1))
   unfolding readTap number done
   tap-read h o = rw need-pass (simp add-assoc (run-pass d (pos + 7) end (be (part d (pos + 6) 1)) _ o ∙ simp add-assoc))
-
-pub tap-grows : Grows readTap
-tap-grows =
-    record {
-      grows = λ d pos end a next.
-          head-and-run (readTap d pos end) 7 (be (part d (pos + 6) 1)) pos end (omega arith) (tap-cut d pos end) (tap-over d pos end) (tap-read d pos end) a next;
-    }

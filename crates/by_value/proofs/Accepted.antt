@@ -7,7 +7,6 @@ use lib.ListN.{length, replicate, length-map}
 use Rattle.octets.specs.Octets.{splice}
 use Rattle.reference.specs.declared.Profile.{Profile as Entry}
 use Rattle.reference.specs.declared.TaggedProfile.{TaggedProfile}
-use Rattle.reference.specs.declared.TaggedProfile.the-variants as Sort
 use Rattle.reference.specs.Meaning.{Profile, Reference, Room}
 use Rattle.reference.specs.Layout.{layoutProfile, WellFormed}
 use Rattle.reference.specs.Tables.{placed, bodyAt, entryAt, view, tablesOf, tabled, filled, noTap, noName, noExtra, noProfile}

@@ -3,7 +3,7 @@
 use Prim.Native.Nat.{ℕ, _+_}
 use mathlib.Core.List.{List, _∷_, _++_}
 use lib.Dec.{ltb, leb, eqb}
-use lib.ListN.{length, take}
+use lib.ListN.{length}
 use Rattle.octets.specs.Octets.{part, be, octets}
 use Rattle.reference.specs.Reader.{pick}
 use Rattle.cache.specs.declared.Record.{Record}

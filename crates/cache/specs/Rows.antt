@@ -1,5 +1,5 @@
 -- The listing of a cache as text (document 01, "Cache listing"): a heading, a row for each record, and a last line. Assumes nothing.
-use Prim.Native.Nat.{ℕ, zero, suc, _+_, _-_}
+use Prim.Native.Nat.{ℕ, zero, suc, _-_}
 use mathlib.Core.List.{List, [], _∷_, _++_}
 use lib.ListN.{length, take}
 use Rattle.octets.specs.Octets.{part, octets}

@@ -3,12 +3,7 @@ use Prim.Native.Nat.{ℕ, _+_, _-_, _<_, _≤_}
 use mathlib.Core.Path.{_≡_, _∙_}
 use mathlib.Core.List.{List}
 use native.Mathlib.Nat.{add-assoc}
-use native.Mathlib.Omega.{arith}
-use lib.ListN.{length, length-append}
 use Rattle.octets.specs.Octets.{be, part}
-use Rattle.octets.proofs.Inverse.{length-octets}
-use Rattle.reference.specs.Meaning.{Extra}
-use Rattle.reference.specs.Layout.{layoutExtra}
 use Rattle.reference.specs.Reader.{ok, refused, refusal, number, done, readExtra}
 use Rattle.reference.proofs.Steps.{need-cut, need-pass, run-cut, run-pass}
 
@@ -25,7 +20,3 @@ module _ (place : ℕ) (d : List ℕ) (pos end : ℕ) where
       → readExtra place d pos end ≡ ok (record { tag = be (part d pos 4); bytes = part d (pos + 5) (be (part d (pos + 4) 1)) }) (pos + 5 + be (part d (pos + 4) 1))
   unfolding readExtra number done
   extra-read h o = rw need-pass (simp add-assoc (run-pass d (pos + 5) end (be (part d (pos + 4) 1)) _ o ∙ simp add-assoc))
-
-pub extra-length : (t : Extra) → length (layoutExtra t) ≡ 5 + length (t .bytes)
-unfolding layoutExtra
-extra-length t = simp (length-append, length-octets) (omega arith)

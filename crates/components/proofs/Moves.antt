@@ -1,15 +1,14 @@
 -- What a slice of octets tells a reader's code: numbers are small, and a reader that is right ends behind what it read. Assumes nothing.
-use Prim.Native.Nat.{ℕ, suc, _+_, _-_, _^_, _<_, _≤_}
-use mathlib.Core.Path.{_≡_, sym, ap₂, _∙_}
+use Prim.Native.Nat.{ℕ, suc, _+_, _^_, _<_, _≤_}
+use mathlib.Core.Path.{_≡_, _∙_}
 use mathlib.Core.List.{List, [], _∷_, map}
 use native.Mathlib.Omega.{arith}
-use lib.Dec.{eqb, eqb→eq}
 use lib.ListN.{length, getD}
 use Rattle.octets.specs.Octets.{Octets, be, part, joined}
 use Rattle.octets.proofs.Inverse.{be-lt}
 use Rattle.octets.proofs.Part.{length-part, octets-part}
-use Rattle.reference.specs.Reader.{Reader, ok, refused, refusal, pick, ending, many}
-use Rattle.reference.proofs.Laws.{Reads, followed-ok, pass-ok, fills-ending, reads-many}
+use Rattle.reference.specs.Reader.{Reader, ok, ending, many}
+use Rattle.reference.proofs.Laws.{Reads, fills-ending, reads-many}
 
 -- a slice of octets, as the code knows it at each index
 pub octets-of-slice : (d : List ℕ) → ((i : ℕ) → getD d i 0 < 256) → Octets d
@@ -25,18 +24,6 @@ pub moved : {A : Type 0} {r : Reader A} {lay : A → List ℕ} {good : A → Typ
 moved h d pos end o p l {a} {next} e =
     let f = h .sound d pos end (record { octs = o; fits = l; room = omega arith }) a next e .0 in
     (f .room, f .span)
-
--- what must reach the end has reached it
-pub ending-in : {A : Type 0} (place : ℕ) (r : Reader A) (d : List ℕ) (pos end : ℕ) {a : A} {next : ℕ} → ending place r d pos end ≡ ok a next
-    → (next ≡ end) × (r d pos end ≡ ok a end)
-unfolding ending
-ending-in {A} place r d pos end {a} {next} e =
-    let (b, mid, p, q) = followed-ok (r d pos end) (λ b next. pick (eqb next end) (ok b next) (refused (refusal 1 place (end - next) 0))) e in
-    let (t, s) = pass-ok (eqb mid end) (ok b mid) (refusal 1 place (end - mid) 0) q in
-    let m : mid ≡ next = cc in
-    let n : mid ≡ end = eqb→eq mid end t in
-    let v : b ≡ a = cc in
-    (sym m ∙ n, p ∙ ap₂ (λ (x : A) (k : ℕ). ok x k) v n)
 
 -- n entries that must reach the end: where they end, and how many they are
 pub run-moved : {A : Type 0} {r : Reader A} {lay : A → List ℕ} {good : A → Type 0} → Reads 0 r lay good → (place n : ℕ) (d : List ℕ) (pos end : ℕ) → Octets d → pos ≤ end → end ≤ length d

@@ -1,11 +1,9 @@
 -- What the readers' code tells, in the definition's words, and what they leave in a lent table. Of a refused reading the table is open: the
 -- public reading clears it. Assumes nothing.
-use Prim.Native.Nat.{ℕ, _+_}
+use Prim.Native.Nat.{ℕ}
 use mathlib.Core.Path.{_≡_}
 use mathlib.Core.List.{List}
 use lib.Dec.{eqb, leb}
-use Rattle.reference.specs.declared.Tap.{Tap as TapEntry}
-use Rattle.reference.specs.declared.NameComponent.{NameComponent}
 use Rattle.reference.specs.declared.LiteComponent.{LiteComponent}
 use Rattle.reference.specs.Meaning.{Tap, Name, Extra, Profile}
 use Rattle.reference.specs.Layout.{layoutTap, layoutName, layoutExtra}

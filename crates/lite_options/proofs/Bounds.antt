@@ -1,22 +1,19 @@
--- Where the parts of LiteOptions data end, and how many entries there can be. Assumes nothing.
-use Prim.Native.Nat.{ℕ, zero, suc, _+_, _-_, _<_, _≤_}
+-- Where the parts of LiteOptions data end. Assumes nothing.
+use Prim.Native.Nat.{ℕ, zero, suc, _+_, _-_, _≤_}
 use mathlib.Core.Path.{_≡_, sym, ap, _∙_}
-use mathlib.Core.List.{List, [], _∷_}
+use mathlib.Core.List.{List, _∷_}
 use native.Mathlib.Omega.{arith}
 use lib.Dec.{ltb, eqb, nltb→le}
 use lib.ListN.{length}
 use Rattle.octets.specs.Octets.{Octets, be, part}
-use Rattle.reference.specs.Meaning.{Address, Name, Lite, Extra}
+use Rattle.reference.specs.Meaning.{Address, Name}
 use Rattle.reference.specs.Layout.{tag-service}
-use Rattle.reference.specs.Reader.{Answer, ok, refused, refusal, Reader, pick, followed, need, number, run, done, check, within, after, ending, many, readAddress, readName, readExtra, readLite}
+use Rattle.reference.specs.Reader.{Answer, ok, refused, refusal, Reader, pick, followed, need, number, done, check, within, after, ending, many, readAddress, readName}
 use Rattle.reference.proofs.Laws.{guard-ok, pass-ok, followed-ok}
-use Rattle.reference.proofs.Steps.{ending-at}
 use Rattle.components.specs.Told.{readFixed}
 use Rattle.components.proofs.Fixed.{fixed-known}
-use Rattle.lite_options.specs.Head.{Head, Opened, readRun, readServiceHead, readServicePart, readLiteHead}
-use Rattle.lite_options.specs.Rest.{readRest}
-use Rattle.lite_options.proofs.Runs.{name-length, name-moves}
-use Rattle.lite_options.proofs.Split.{lite-split}
+use Rattle.lite_options.specs.Head.{Head, Opened, readServiceHead, readServicePart, readLiteHead}
+use Rattle.lite_options.proofs.Runs.{name-moves}
 
 -- ---- what stands before the first name
 
@@ -80,43 +77,21 @@ head-known d end oct fits {o} {next} e =
     let w = part-known (c - 1) d p end r in
     (omega (arith, w .first, at), w .before, w .stop, omega (arith, w .extras, small))
 
--- ---- how many there are
+-- ---- where the names end
 
-many-steps : {A : Type 0} (r : Reader A) (d : List ℕ) (end : ℕ) → ((pos : ℕ) (a : A) (next : ℕ) → r d pos end ≡ ok a next → (pos < next) × (next ≤ end))
-    → (n pos : ℕ) (l : List A) (next : ℕ) → pos ≤ end → many n r d pos end ≡ ok l next → (pos + length l ≤ next) × (next ≤ end)
+many-ends : {A : Type 0} (r : Reader A) (d : List ℕ) (end : ℕ) → ((pos : ℕ) (a : A) (next : ℕ) → r d pos end ≡ ok a next → next ≤ end)
+    → (n pos : ℕ) (l : List A) (next : ℕ) → pos ≤ end → many n r d pos end ≡ ok l next → next ≤ end
 unfolding many
-many-steps r d end step zero pos l next h e =
-    let z : [] ≡ l = cc e in
-    let p : pos ≡ next = cc e in
-    (omega (arith, ap length z), omega arith)
-many-steps {A} r d end step (suc n) pos l next h e =
+many-ends r d end step zero pos l next h e = let p : pos ≡ next = cc e in omega arith
+many-ends {A} r d end step (suc n) pos l next h e =
     let rest : A → ℕ → Answer (List A) = λ a at. followed (many n r d at end) (λ l last. ok (a ∷ l) last) in
     let (a, at, p, q) = followed-ok (r d pos end) rest e in
     let (k, last, p′, q′) = followed-ok (many n r d at end) (λ l last. ok (a ∷ l) last) q in
-    let (u, v) = step pos a at p in
-    let (x, y) = many-steps r d end step n at k last v p′ in
-    let z : a ∷ k ≡ l = cc q′ in
     let w : last ≡ next = cc q′ in
-    (omega (arith, ap length z), omega arith)
-
-extra-steps : (place : ℕ) (d : List ℕ) (end pos : ℕ) (a : Extra) (next : ℕ) → readExtra place d pos end ≡ ok a next → (pos < next) × (next ≤ end)
-unfolding readExtra need number run done
-extra-steps place d end pos a next e =
-    let n = be (part d (pos + 4) 1) in
-    let short = refusal 2 0 n (end - (pos + 4 + 1)) in
-    let whole : Answer Extra = ok (record { tag = be (part d pos 4); bytes = part d (pos + 4 + 1) n }) (pos + 4 + 1 + n) in
-    let (t, q) = guard-ok (ltb end (pos + 5)) (refusal 1 place (pos + 5) end) (pick (ltb (end - (pos + 4 + 1)) n) (refused short) whole) e in
-    let (t′, q′) = guard-ok (ltb (end - (pos + 4 + 1)) n) short whole q in
-    let p : pos + 4 + 1 + n ≡ next = cc q′ in
-    (omega arith, omega (arith, nltb→le end (pos + 5) t, nltb→le (end - (pos + 4 + 1)) n t′))
-
-name-steps : (d : List ℕ) (end : ℕ) → end ≤ length d → (pos : ℕ) (n : Name) (next : ℕ) → readName d pos end ≡ ok n next → (pos < next) × (next ≤ end)
-name-steps d end fits pos n next e =
-    let (s, b) = name-moves d pos end fits e in
-    (omega (arith, s, name-length n), b)
+    omega (arith, many-ends r d end step n at k last (step pos a at p) p′)
 
 pub names-end : (d : List ℕ) (n pos end : ℕ) → pos ≤ end → end ≤ length d → {l : List Name} {next : ℕ} → many n readName d pos end ≡ ok l next → next ≤ end
-names-end d n pos end h fits {l} {next} e = many-steps readName d end (name-steps d end fits) n pos l next h e .1
+names-end d n pos end h fits {l} {next} e = many-ends readName d end (λ at x then q. name-moves d at end fits q .1) n pos l next h e
 
 -- what reached its end was read
 pub ending-read : {A : Type 0} (place : ℕ) (r : Reader A) (d : List ℕ) (pos end : ℕ) {a : A} {n : ℕ} → ending place r d pos end ≡ ok a n → (r d pos end ≡ ok a n)
@@ -125,26 +100,3 @@ ending-read {A} place r d pos end {a} {n} e =
     let (b, m, p, q) = followed-ok (r d pos end) (λ a n. pick (eqb n end) (ok a n) (refused (refusal 1 place (end - n) 0))) e in
     let (t, w) = pass-ok (eqb m end) (ok b m) (refusal 1 place (end - m) 0) q in
     p ∙ w
-
--- a LiteOptions profile has no more names or extras than octets
-pub lite-counts : (d : List ℕ) {l : Lite} {n : ℕ} → readLite d 0 (length d) ≡ ok l n → (length (l .service .names) ≤ length d) × (length (l .extras) ≤ length d)
-unfolding readLiteHead after
-lite-counts d {l} {n} e =
-    let end = length d in
-    let (o, next, p, q) = followed-ok (readLiteHead d 0 end) (readRest d end) (sym (lite-split d end) ∙ e) in
-    let (c, at, p₁, q₁) = followed-ok (readFixed 1 15 31 35 d 0 end) (λ c p. readServicePart (c - 1) d p end) p in
-    let w = part-known (c - 1) d at end q₁ in
-    let after-extras : List Name → List ℕ → List Extra → ℕ → Answer Lite = λ ns x es last. ok (record { service = record { address = o .address; names = ns; context = x }; extras = es }) last in
-    let after-context : List Name → List ℕ → ℕ → Answer Lite = λ ns x mid. followed (ending 25 (many (o .extras) (readExtra 24)) d mid end) (after-extras ns x) in
-    let after-names : List Name → ℕ → Answer Lite = λ ns at. followed (ending 23 (readRun 22) d at (o .stop)) (after-context ns) in
-    let (ns, a, p₂, q₂) = followed-ok (many (o .names) readName d next (o .stop)) after-names q in
-    let (x, mid, p₃, q₃) = followed-ok (ending 23 (readRun 22) d a (o .stop)) (after-context ns) q₂ in
-    let (es, last, p₄, q₄) = followed-ok (ending 25 (many (o .extras) (readExtra 24)) d mid end) (after-extras ns x) q₃ in
-    let same : record { service = record { address = o .address; names = ns; context = x }; extras = es } ≡ l = cc q₄ in
-    let ln : length (l .service .names) ≡ length ns = ap (λ (y : Lite). length (y .service .names)) (sym same) in
-    let le : length (l .extras) ≡ length es = ap (λ (y : Lite). length (y .extras)) (sym same) in
-    let (u, v) = many-steps readName d (o .stop) (name-steps d (o .stop) (w .stop)) (o .names) next ns a (w .before) p₂ in
-    let s : mid ≡ o .stop = ending-at 23 (readRun 22) d a (o .stop) p₃ in
-    let (u′, v′) =
-    many-steps (readExtra 24) d end (extra-steps 24 d end) (o .extras) mid es last (omega (arith, s, w .stop)) (ending-read 25 (many (o .extras) (readExtra 24)) d mid end p₄) in
-    (omega (arith, u, v, w .stop), omega (arith, u′, v′))

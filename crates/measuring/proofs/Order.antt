@@ -13,7 +13,7 @@ use Rattle.reference.specs.Reader.{refusal}
 use Rattle.reference.specs.Tables.{usedOf}
 use Rattle.reference.specs.Checks.{both}
 use Rattle.reference.specs.Writer.{sizeOf, sourceCheck, usedCheck, sumCheck, countsCheck, viewsCheck, imageCheck, measureCheck, told}
-use Rattle.reference.proofs.Checks.{stop, go, passes, le-test}
+use Rattle.reference.proofs.Checks.{stop, go, le-test}
 use Rattle.table.specs.declared.Counts.{Counts}
 use Rattle.table.specs.Flat.{tablesFrom}
 use Rattle.measuring.specs.ByTable.{sumsOf}
@@ -49,10 +49,6 @@ told-refuse Pass m e = let z : _≡_ {A = ℕ} 0 1 = cc in absurd (omega arith)
 told-refuse (Refuse q) m e = cc
 
 -- ---- 6, 8, 9, 10
-
-pub counts-pass : (t : Tables) (n : ℕ) → measureCheck t n ≡ Pass → countsCheck t ≡ Pass
-unfolding measureCheck
-counts-pass t n h = passes _ _ (passes _ _ h .1) .0
 
 module _ (t : Tables) (n : ℕ) where
   refuses : {r : Refusal} → measureCheck t n ≡ Refuse r → Refused r ≡ told (measureCheck t n) (sizeOf (usedOf t))

@@ -8,7 +8,7 @@ use native.Mathlib.Omega.{arith}
 use lib.ListN.{getD}
 use Rattle.reference.specs.declared.Check.{Check}
 use Rattle.reference.specs.declared.Check.the-variants.{Pass, Refuse}
-use Rattle.reference.specs.Checks.{both, each}
+use Rattle.reference.specs.Checks.{each}
 use Rattle.reference.specs.Tables.{bodyView}
 use Rattle.reference.specs.Writer.{sizeOf, countsCheck, entryViews, viewsCheck, measureCheck}
 use Rattle.reference.proofs.Checks.{passes, passed, test-le, le-test, eq-test}

@@ -3,7 +3,7 @@ use Prim.Native.Nat.{ℕ, _≤_}
 use mathlib.Core.List.{List, [], _∷_, map}
 use native.Mathlib.Omega.{arith}
 use lib.ListN.{length, length-append}
-use Rattle.octets.specs.Octets.{octets, joined}
+use Rattle.octets.specs.Octets.{joined}
 use Rattle.octets.proofs.Inverse.{length-octets}
 use Rattle.reference.specs.Meaning.{Tap, Name, Extra, Profile, biop, lite, opaque, tapsOf, namesOf, extrasOf}
 use Rattle.reference.specs.Layout.{layoutTap, layoutName, layoutExtra, layoutBinder, layoutService, layoutBiop, layoutLite, dataOf, layoutProfile}

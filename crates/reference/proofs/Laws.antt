@@ -158,16 +158,6 @@ module _ {A : Type 0} {good : A → Type 0} {lay : A → List ℕ} where
         least = l;
       }
 
-  -- another way to write the layout of the good ones
-  pub reads-lay : {r : Reader A} {m : ℕ} (lay′ : A → List ℕ) → ((a : A) → good a → lay′ a ≡ lay a) → Reads m r lay good → Reads m r lay′ good
-  reads-lay lay′ e h =
-      record {
-        sound = λ d pos end c a next q. let s = h .sound d pos end c a next q in (rw (e a (s .1)) (s .0), s .1);
-        complete = λ d pos end c a next s g. h .complete d pos end c a next (rw (e a g) at s) g;
-        short = λ d pos end c a s g. h .short d pos end c a (rw (e a g) at s) g;
-        least = λ a g. rw (e a g) (h .least a g);
-      }
-
   pub reads-number : {m : ℕ} {f : ℕ → Reader A} (w : ℕ) (get : A → ℕ) → T (leb w m) → ((a : A) → good a → get a < 256 ^ w)
       → ((v : ℕ) → v < 256 ^ w → Reads (m - w) (f v) lay (λ a. (good a) × (get a ≡ v))) → Reads m (number w f) (λ a. octets w (get a) ++ lay a) good
   unfolding number

@@ -7,7 +7,7 @@ use mathlib.Core.Logic.{_≢_}
 use native.Mathlib.Omega.{arith}
 use lib.ListN.{length, length-append}
 use lib.Dec.{T, eqb, eqb→eq, eqb-refl, le→leb, lit<, T-not}
-use Rattle.octets.specs.Octets.{Each, Octets, octets}
+use Rattle.octets.specs.Octets.{Octets, octets}
 use Rattle.reference.specs.Meaning.{Tap, Location, Extra, Biop, Address, Name, Service, Lite, Profile, biop, lite, opaque, Reference}
 use Rattle.reference.specs.Layout.{layoutTap, GoodTap, layoutLocation, GoodLocation, layoutBinder, GoodBinder, layoutExtra, GoodExtra, layoutBiop, GoodBiop, layoutAddress, GoodAddress, layoutName, GoodName, layoutService, GoodService, layoutLite, GoodLite, tagOf, dataOf, layoutProfile, GoodProfile, layoutOf, WellFormed, tagged, tag-biop, tag-lite, tag-location, tag-binder, tag-service}
 use Rattle.reference.specs.Reader.{Reader, refusal, component, readTap, readLocation, readBinder, readExtra, readBiop, readAddress, readName, readService, readLite, readProfile, readReference}

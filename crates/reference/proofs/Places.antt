@@ -6,7 +6,7 @@ use mathlib.Core.List.{List, [], _∷_, _++_, map}
 use lib.ListN.{length, replicate}
 use Rattle.octets.specs.Octets.{be, joined}
 use Rattle.reference.specs.Meaning.{Reference}
-use Rattle.reference.specs.Reader.{Answer, ok, refused, refusal, done, need, number, run, check, choose, ending, within, inside, many, after, component, readTap, readLocation, readBinder, readExtra, readBiop, readAddress, readName, readService, readLite, readProfile, readReference, readLeading, readWhole}
+use Rattle.reference.specs.Reader.{Answer, ok, refused, done, need, number, run, check, choose, ending, within, inside, many, after, component, readTap, readLocation, readBinder, readExtra, readBiop, readAddress, readName, readService, readLite, readProfile, readReference, readLeading, readWhole}
 
 -- accepted with so many octets, or the refusal
 pub data Out : Type 0 where

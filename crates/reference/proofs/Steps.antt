@@ -4,12 +4,11 @@ use mathlib.Core.Path.{_≡_, refl, sym, ap, _∙_}
 use mathlib.Core.Bool.{Bool, true, false, not}
 use mathlib.Core.List.{List}
 use mathlib.Core.Logic.{_≢_}
-use native.Mathlib.Nat.{add-assoc}
 use native.Mathlib.Omega.{arith}
 use lib.Dec.{T, ltb, lt→ltb, not-T, eqb, eqb→eq, eqb-refl}
-use Rattle.octets.specs.Octets.{be, part}
+use Rattle.octets.specs.Octets.{part}
 use Rattle.reference.specs.declared.Refusal.{Refusal}
-use Rattle.reference.specs.Reader.{Answer, ok, refused, refusal, Reader, pick, followed, seen, need, number, run, done, check, choose, within, inside, ending, after, component}
+use Rattle.reference.specs.Reader.{Answer, ok, refused, refusal, Reader, pick, followed, seen, need, run, check, within, ending, after}
 use Rattle.reference.proofs.Laws.{guard-pass, pass-pass, not-ltb}
 
 module _ {A : Type 0} (d : List ℕ) (pos end : ℕ) where
@@ -66,68 +65,6 @@ module _ {A : Type 0} (d : List ℕ) (pos end : ℕ) where
   pub after-ok : {B : Type 0} (r : Reader B) (f : B → Reader A) {b : B} {next : ℕ} → r d pos end ≡ ok b next → after r f d pos end ≡ f b d next end
   unfolding after
   after-ok r f e = rw (e, after)
-
--- data that is a list of its own, and one of two
-
-module _ {A : Type 0} (d : List ℕ) (pos end : ℕ) where
-  pub inside-cut : (n : ℕ) (r : Reader A) → end - pos < n → inside n r d pos end ≡ refused (refusal 2 0 n (end - pos))
-  unfolding inside
-  inside-cut n r h = pass-pass (ltb (end - pos) n) (refused (refusal 2 0 n (end - pos))) _ (lt→ltb (end - pos) n h)
-
-  pub inside-no : (n : ℕ) (r : Reader A) → n ≤ end - pos → {x : Refusal} → r (part d pos n) 0 n ≡ refused x → inside n r d pos end ≡ refused x
-  unfolding inside
-  inside-no n r h e =
-      guard-pass (ltb (end - pos) n) (refused (refusal 2 0 n (end - pos))) _ (not-ltb (end - pos) n h)
-      ∙ ap (λ (y : Answer A). followed y (λ a next. ok a (pos + n))) e
-
-  pub inside-ok : (n : ℕ) (r : Reader A) → n ≤ end - pos → {a : A} {next : ℕ} → r (part d pos n) 0 n ≡ ok a next → inside n r d pos end ≡ ok a (pos + n)
-  unfolding inside
-  inside-ok n r h e =
-      guard-pass (ltb (end - pos) n) (refused (refusal 2 0 n (end - pos))) _ (not-ltb (end - pos) n h)
-      ∙ ap (λ (y : Answer A). followed y (λ a next. ok a (pos + n))) e
-
-  pub choose-first : (b : Bool) (r s : Reader A) → T b → choose b r s d pos end ≡ r d pos end
-  unfolding choose
-  choose-first b r s t = pass-pass b (r d pos end) (s d pos end) t
-
-  pub choose-second : (b : Bool) (r s : Reader A) → T (not b) → choose b r s d pos end ≡ s d pos end
-  unfolding choose
-  choose-second b r s t = guard-pass b (r d pos end) (s d pos end) t
-
--- a component, by the cases of its code
-
-module _ {A : Type 0} (w tag header wrong left : ℕ) (r : Reader A) (d : List ℕ) (pos end : ℕ) where
-  pub component-cut : end < pos + (4 + w) → component w tag header wrong left r d pos end ≡ refused (refusal 1 header (pos + (4 + w)) end)
-  unfolding component
-  component-cut h = need-cut d pos end (4 + w) header _ h
-
-  module _ (room : pos + (4 + w) ≤ end) where
-    pub component-wrong : be (part d pos 4) ≢ tag → component w tag header wrong left r d pos end ≡ refused (refusal 3 wrong 0 0)
-    unfolding component number
-    component-wrong h = rw need-pass (check-not d (pos + 4) end (eqb (be (part d pos 4)) tag) (refusal 3 wrong 0 0) _ (not-T (eqb (be (part d pos 4)) tag) (λ t. h (eqb→eq (be (part d pos 4)) tag t))))
-
-    module _ (right : be (part d pos 4) ≡ tag) where
-      core : component w tag header wrong left r d pos end ≡ after (within (be (part d (pos + 4) w)) (ending left r)) (λ a. done a) d (pos + (4 + w)) end
-      unfolding component number
-      core = rw need-pass (check-pass d (pos + 4) end (eqb (be (part d pos 4)) tag) (refusal 3 wrong 0 0) _ (rw right (eqb-refl tag)) ∙ ap (λ (x : ℕ). after (within (be (part d (pos + 4) w)) (ending left r)) (λ a. done a) d x end) (add-assoc pos 4 w))
-
-      pub component-over : end - (pos + (4 + w)) < be (part d (pos + 4) w)
-          → component w tag header wrong left r d pos end ≡ refused (refusal 2 0 (be (part d (pos + 4) w)) (end - (pos + (4 + w))))
-      component-over h = core ∙ after-no d (pos + (4 + w)) end _ _ (within-cut d (pos + (4 + w)) end (be (part d (pos + 4) w)) _ h)
-
-      module _ (fits : be (part d (pos + 4) w) ≤ end - (pos + (4 + w))) where
-        pub component-no : {x : Refusal} → r d (pos + (4 + w)) (pos + (4 + w) + be (part d (pos + 4) w)) ≡ refused x → component w tag header wrong left r d pos end ≡ refused x
-        component-no e = core ∙ after-no d (pos + (4 + w)) end _ _ (within-pass d (pos + (4 + w)) end (be (part d (pos + 4) w)) _ fits ∙ ending-no d (pos + (4 + w)) _ left r e)
-
-        pub component-left : {a : A} {next : ℕ} → r d (pos + (4 + w)) (pos + (4 + w) + be (part d (pos + 4) w)) ≡ ok a next → next ≢ pos + (4 + w) + be (part d (pos + 4) w)
-            → component w tag header wrong left r d pos end ≡ refused (refusal 1 left (pos + (4 + w) + be (part d (pos + 4) w) - next) 0)
-        component-left e h =
-            core ∙ after-no d (pos + (4 + w)) end _ _ (within-pass d (pos + (4 + w)) end (be (part d (pos + 4) w)) _ fits ∙ ending-left d (pos + (4 + w)) _ left r e h)
-
-        pub component-ok : {a : A} → r d (pos + (4 + w)) (pos + (4 + w) + be (part d (pos + 4) w)) ≡ ok a (pos + (4 + w) + be (part d (pos + 4) w))
-            → component w tag header wrong left r d pos end ≡ ok a (pos + (4 + w) + be (part d (pos + 4) w))
-        unfolding done
-        component-ok e = core ∙ after-ok d (pos + (4 + w)) end _ _ (within-pass d (pos + (4 + w)) end (be (part d (pos + 4) w)) _ fits ∙ ending-ok d (pos + (4 + w)) _ left r e)
 
 -- ---- what an answer tells
 

@@ -1,6 +1,6 @@
 -- The statements of the promises: what holds of an accepted reading's tables, of writing them back, of reading what was written, of measuring
 -- against writing (document 01, "Tables" and the three demands). The theorems stand in proofs/. Assumes nothing.
-use Prim.Native.Nat.{ℕ, _+_, _-_, _<_, _≤_}
+use Prim.Native.Nat.{ℕ, _-_, _<_, _≤_}
 use mathlib.Core.Path.{_≡_}
 use mathlib.Core.List.{List, [], _∷_}
 use lib.ListN.{length, take, drop, getD, replicate}

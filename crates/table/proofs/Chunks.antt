@@ -1,4 +1,4 @@
--- The laws of `chunks`: how many entries, which numbers each tells, entries after entries, entries that were written, and zeros. Assumes nothing.
+-- The laws of `chunks`: how many entries, which numbers each tells, entries that were written; and of zeros. Assumes nothing.
 use Prim.Native.Nat.{ℕ, zero, suc, _+_, _-_, _*_, _<_, _≤_}
 use mathlib.Core.Path.{_≡_, refl, sym, ap, ap₂, _∙_}
 use mathlib.Core.List.{List, [], _∷_, _++_, map, append-assoc}
@@ -34,27 +34,6 @@ module _ {E : Type 0} (from : List ℕ → E) (w : ℕ) where
       let e : w + w * k ≡ w * suc k = omega (arith, mul-suc w k) in
       chunks-get n (drop w l) k z (omega arith) ∙ ap (λ (r : List ℕ). from (take w r)) (drop-drop (w * k) w l) ∙ ap (λ (j : ℕ). from (part l j w)) e
 
-  -- the first m, then the next n
-  pub chunks-add : (m n : ℕ) (l : List ℕ) → chunks from w (m + n) l ≡ chunks from w m l ++ chunks from w n (drop (w * m) l)
-  unfolding chunks
-  chunks-add zero n l = ap₂ (λ (k j : ℕ). chunks from w k (drop j l)) (zero-add n) (sym (mul-zero w))
-  chunks-add (suc m) n l =
-      let e : w + w * m ≡ w * suc m = omega (arith, mul-suc w m) in
-      ap (λ (k : ℕ). chunks from w k l) (suc-add m n)
-      ∙ ap (λ (r : List E). from (take w l) ∷ r)
-      (chunks-add m n (drop w l)
-      ∙ ap (λ (r : List ℕ). chunks from w m (drop w l) ++ chunks from w n r) (drop-drop (w * m) w l ∙ ap (λ (j : ℕ). drop j l) e))
-
-  pub chunks-take : (k n : ℕ) (l : List ℕ) → k ≤ n → take k (chunks from w n l) ≡ chunks from w k l
-  chunks-take k n l h =
-      let e : n ≡ k + (n - k) = omega arith in
-      ap (λ (j : ℕ). take k (chunks from w j l)) e ∙ ap (take k) (chunks-add k (n - k) l) ∙ take-at (chunks from w k l) _ k (chunks-length k l)
-
-  pub chunks-drop : (k n : ℕ) (l : List ℕ) → k ≤ n → drop k (chunks from w n l) ≡ chunks from w (n - k) (drop (w * k) l)
-  chunks-drop k n l h =
-      let e : n ≡ k + (n - k) = omega arith in
-      ap (λ (j : ℕ). drop k (chunks from w j l)) e ∙ ap (drop k) (chunks-add k (n - k) l) ∙ drop-at (chunks from w k l) _ k (chunks-length k l)
-
   -- entries whose numbers stand at the front
   pub chunks-append : {F : Type 0} (numbers : F → List ℕ) → ((x : F) → length (numbers x) ≡ w)
       → (xs : List F) (n : ℕ) (r : List ℕ) → chunks from w (length xs + n) (joined (map numbers xs) ++ r) ≡ map (λ x. from (numbers x)) xs ++ chunks from w n r
@@ -65,14 +44,6 @@ module _ {E : Type 0} (from : List ℕ → E) (w : ℕ) where
       ap₂ (λ (k : ℕ) (l : List ℕ). chunks from w k l) (suc-add (length xs) n) (append-assoc (numbers x) (joined (map numbers xs)) r)
       ∙ ap₂ (λ (a b : List ℕ). from a ∷ chunks from w (length xs + n) b) (take-at (numbers x) s w (wide x)) (drop-at (numbers x) s w (wide x))
       ∙ ap (λ (l : List E). from (numbers x) ∷ l) (chunks-append numbers wide xs n r)
-
-  pub chunks-zeros : (n m : ℕ) → w * n ≤ m → chunks from w n (replicate m 0) ≡ replicate n (from (replicate w 0))
-  unfolding chunks
-  chunks-zeros zero m h = refl
-  chunks-zeros (suc n) m h =
-      let e : w + w * n ≡ w * suc n = omega (arith, mul-suc w n) in
-      ap₂ (λ (a b : List ℕ). from a ∷ chunks from w n b) (replicate-take w m 0 (omega arith)) (replicate-drop w m 0 (omega arith))
-      ∙ ap (λ (l : List E). from (replicate w 0) ∷ l) (chunks-zeros n (m - w) (omega arith))
 
   -- entry k of those that stand from a on
   pub entry-get : (a n : ℕ) (t : List ℕ) (k : ℕ) (z : E) → k < n → getD (chunks from w n (drop a t)) k z ≡ from (part t (a + w * k) w)

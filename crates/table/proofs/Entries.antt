@@ -55,15 +55,3 @@ module _ (t : List ℕ) where
   pub profiles-used : tablesFrom t .«profiles_used» ≡ getD t 2 0
   unfolding tablesFrom
   profiles-used = refl
-
-  pub taps-used : tablesFrom t .«taps_used» ≡ getD t 3 0
-  unfolding tablesFrom
-  taps-used = refl
-
-  pub names-used : tablesFrom t .«names_used» ≡ getD t 4 0
-  unfolding tablesFrom
-  names-used = refl
-
-  pub extras-used : tablesFrom t .«extras_used» ≡ getD t 5 0
-  unfolding tablesFrom
-  extras-used = refl

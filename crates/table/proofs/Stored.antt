@@ -1,4 +1,4 @@
--- The laws of entries stored in a table of numbers, over the entry's width and sort: entries after entries, read back, sorts in either order.
+-- The laws of entries stored in a table of numbers, over the entry's width and sort: entries after entries, sorts in either order.
 -- Each asks only that the region lies within the table, nothing of the first entry's number or of how many there are. Assumes nothing.
 use Prim.Native.Nat.{ℕ, zero, suc, _+_, _-_, _*_, _<_, _≤_}
 use mathlib.Core.Path.{_≡_, refl, sym, ap, _∙_}
@@ -7,9 +7,9 @@ use mathlib.Core.Logic.{_⊎_, inl, inr, ⊎-elim}
 use native.Mathlib.Nat.{mul-le-mul-left, mul-add, mul-suc, mul-zero, le-of-lt}
 use native.Mathlib.Numerals.{add-one}
 use native.Mathlib.Omega.{arith}
-use lib.ListN.{length, take, drop, getD, length-append, length-take}
-use lib.Seq.{take-suc, split-at, drop-at, length-take-le, take-at, take-all, take-append-le, take-append-add}
-use Rattle.octets.specs.Octets.{joined, splice, part}
+use lib.ListN.{length, take, getD, length-append, length-take}
+use lib.Seq.{take-suc, length-take-le, take-all, take-append-le, take-append-add}
+use Rattle.octets.specs.Octets.{joined, splice}
 use Rattle.octets.proofs.Splice.{splice-length, splice-none, splice-splice, splice-comm}
 use Rattle.table.specs.Region.{Region, stored}
 
@@ -96,25 +96,6 @@ module _ {E : Type 0} (g : Region E) where
         over o =
             stored-full (stored g t k xs) (k + length xs) ys (omega arith)
             ∙ ap (λ (l : List E). splice t at (put l)) (sym (take-append-le (g .size - k) xs ys (omega arith)))
-
-    -- what was stored is read back
-    pub stored-at : (xs : List E) (j : ℕ) (z : E) → j < length xs → k + j < g .size
-        → part (stored g t k xs) (g .start + g .width * (k + j)) (g .width) ≡ g .numbers (getD xs j z)
-    unfolding stored splice
-    stored-at xs j z h f =
-        let x = getD xs j z in
-        let rest = drop (suc j) xs in
-        let m = g .size - (k + suc j) in
-        let q : g .size - (k + j) ≡ suc m = omega arith in
-        let u = stored g t k (take j xs) in
-        let l : length (take j xs) ≡ j = length-take-le j xs (omega arith) in
-        let at = g .start + g .width * (k + j) in
-        let lu : length (take at u) ≡ at = length-take-le at u (omega (arith, stored-length (take j xs), mul-le-mul-left (g .width) (le-of-lt f))) in
-        let whole : stored g t k xs ≡ stored g u (k + j) (x ∷ rest) =
-        ap (stored g t k) (split-at xs j z h) ∙ sym (stored-append (take j xs) (x ∷ rest)) ∙ ap (λ (n : ℕ). stored g u (k + n) (x ∷ rest)) l in
-        ap (λ (v : List ℕ). take (g .width) (drop at v)) (whole ∙ ap (λ (n : ℕ). splice u at (joined (map (g .numbers) (take n (x ∷ rest))))) q)
-        ∙ ap (take (g .width)) (drop-at (take at u) _ at lu ∙ append-assoc (g .numbers x) _ _)
-        ∙ take-at (g .numbers x) _ (g .width) (g .wide x)
 
 -- entries of two sorts, whose regions do not meet, may be stored in either order
 pub stored-comm : {E F : Type 0} (g : Region E) (h : Region F) (t : List ℕ) (j : ℕ) (xs : List E) (k : ℕ) (ys : List F)

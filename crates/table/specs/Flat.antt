@@ -3,7 +3,7 @@
 -- Assumes nothing.
 use Prim.Native.Nat.{ℕ, _+_, _*_, _/_, _%_}
 use mathlib.Core.Path.{_≡_, refl}
-use mathlib.Core.List.{List, [], _∷_, _++_, map}
+use mathlib.Core.List.{List, [], _∷_, map}
 use lib.Dec.{eqb}
 use lib.ListN.{length, drop, getD}
 use Rattle.octets.specs.Octets.{part, joined}
@@ -21,9 +21,6 @@ use Rattle.reference.specs.Reader.{pick}
 use Rattle.table.specs.Region.{Region, chunks}
 
 -- ---- the numbers of each sort of entry
-
-abbrev pub viewNumbers : View → List ℕ
-viewNumbers v = v .at ∷ v .len ∷ []
 
 abbrev pub tapNumbers : Tap → List ℕ
 tapNumbers t = t .id ∷ t .«use_» ∷ t .association ∷ t .selector .at ∷ t .selector .len ∷ []

@@ -3,7 +3,7 @@ use borrow.Author.Needs.{needs}
 use Prim.Native.Nat.{_+_, _*_}
 use mathlib.Core.Path.{_∙_}
 use native.Mathlib.Omega.{arith}
-use Rattle.entries.proofs.Numbers.{number, view-first, view-in}
+use Rattle.entries.proofs.Numbers.{view-first, view-in}
 use Rattle.entries.proofs.name_at.Statement.{statement}
 use Rattle.entries.proofs.name_at.Tie as tie
 

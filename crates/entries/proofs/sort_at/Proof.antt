@@ -2,7 +2,7 @@
 use borrow.Author.Needs.{needs}
 use Prim.Native.Nat.{_+_, _*_}
 use native.Mathlib.Omega.{arith}
-use Rattle.entries.proofs.Numbers.{first, number}
+use Rattle.entries.proofs.Numbers.{first}
 use Rattle.entries.proofs.sort_at.Statement.{statement}
 use Rattle.entries.proofs.sort_at.Tie as tie
 

@@ -5,11 +5,6 @@ use borrow.Author.Needs.{needs}
 use lib.ListN.{length}
 use Rattle.guide.proofs.say_octets.Statement.{statement}
 use Rattle.guide.proofs.say_octets.Tie as tie
-use Rattle.guide.proofs.say_octets.Reads as reads
-use Rattle.guide.proofs.say_octets.Lts as lts
-use Rattle.guide.proofs.say.Reads as say-reads
-use Rattle.guide.proofs.wide.Reads as wide-reads
-use Rattle.io.proofs.print_hex.Reads as print-hex-reads
 
 abbrev Inv-loop : tie.InvT-loop
 Inv-loop s i₀ t3 i = i ≤ length s

@@ -5,7 +5,6 @@ use mathlib.Core.Path.{sym, _∙_}
 use native.Mathlib.Omega.{arith}
 use Rattle.octets.specs.Octets.{part}
 use Rattle.reference.specs.Writer.{extraShort}
-use Rattle.reference.proofs.Checks.{passed}
 use Rattle.measuring.specs.ByTable.{usedIn}
 use Rattle.measuring.proofs.Listed.{some}
 use Rattle.measuring.proofs.Going.{Checking, check-begin, check-turn, check-stop, check-end}

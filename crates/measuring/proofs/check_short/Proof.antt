@@ -1,7 +1,6 @@
 -- `measuring::check_short` meets its contract. By its test. Assumes nothing.
 use borrow.Author.Needs.{needs}
 use mathlib.Core.Path.{sym, ap, _∙_}
-use Rattle.reference.specs.Checks.{test}
 use Rattle.reference.specs.declared.Check.the-variants.{Refuse}
 use Rattle.reference.proofs.Checks.{le-test}
 use Rattle.measuring.proofs.Tests.{lt-test}

@@ -4,7 +4,6 @@ use Prim.Native.Nat.{_-_, _*_, _≤_}
 use mathlib.Core.Path.{_≡_, refl, sym, _∙_}
 use native.Mathlib.Omega.{arith}
 use lib.ListN.{getD}
-use Rattle.reference.proofs.Checks.{passed}
 use Rattle.measuring.proofs.Tables.{agreeing}
 use Rattle.measuring.proofs.Short.{Passed, passed-begin, passed-end, passed-turn, passed-stop, passed-within}
 use Rattle.measuring.proofs.check_sizes.Statement.{statement}

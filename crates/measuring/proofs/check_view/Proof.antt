@@ -2,7 +2,6 @@
 use borrow.Author.Needs.{needs}
 use Prim.Native.Nat.{_+_}
 use mathlib.Core.Path.{sym, ap, _∙_}
-use Rattle.reference.specs.Checks.{test}
 use Rattle.reference.specs.declared.Check.the-variants.{Refuse}
 use Rattle.reference.proofs.Checks.{le-test}
 use Rattle.measuring.proofs.Tests.{lt-test}

@@ -1,6 +1,5 @@
 -- `measuring::length_from` meets its contract. The length of the source is all that measuring asks of it. Assumes nothing.
 use borrow.Author.Needs.{needs}
-use lib.ListN.{length}
 use Rattle.reference.specs.Writer.{measured}
 use Rattle.measuring.proofs.length_from.Statement.{statement}
 use Rattle.measuring.proofs.length_from.Tie as tie
