@@ -1,4 +1,3 @@
-pub mod Tests
 pub mod Listed
 pub mod Going
 pub mod Tables

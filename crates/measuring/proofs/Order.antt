@@ -13,11 +13,10 @@ use Rattle.reference.specs.Reader.{refusal}
 use Rattle.reference.specs.Tables.{usedOf}
 use Rattle.reference.specs.Checks.{both}
 use Rattle.reference.specs.Writer.{sizeOf, sourceCheck, usedCheck, sumCheck, countsCheck, viewsCheck, imageCheck, measureCheck, told}
-use Rattle.reference.proofs.Checks.{stop, go, le-test}
+use Rattle.reference.proofs.Checks.{stop, go, le-test, lt-test}
 use Rattle.table.specs.declared.Counts.{Counts}
 use Rattle.table.specs.Flat.{tablesFrom}
 use Rattle.measuring.specs.ByTable.{sumsOf}
-use Rattle.measuring.proofs.Tests.{lt-test}
 
 -- ---- 8, over a lent table
 

@@ -5,9 +5,8 @@ use mathlib.Core.Bool.{Bool, true, false}
 use mathlib.Core.List.{List, [], _++_, append-assoc, append-nil}
 use native.Mathlib.Nat.{zero-add}
 use native.Mathlib.Omega.{arith}
-use borrow.Author.Tests.{lt-leb}
 use lib.ListN.{length}
-use lib.Dec.{leb, ltb, lt→ltb, nltb→le}
+use lib.Dec.{ltb, lt→ltb, nltb→le}
 use Rattle.octets.specs.Octets.{part, be, octets, splice}
 use Rattle.octets.specs.Put.{Put}
 use Rattle.reference.specs.declared.View.{View}
@@ -19,13 +18,13 @@ use Rattle.reference.specs.declared.Answer.the-variants.{Count, Refused}
 use Rattle.reference.specs.Meaning.{Name}
 use Rattle.reference.specs.Reader.{Answer, ok, refused, refusal, Reader, pick, followed, seen, need, number, run, done}
 use Rattle.reference.specs.Tables.{shown, view}
-use Rattle.reference.specs.Checks.{test, both}
+use Rattle.reference.specs.Checks.{both}
 use Rattle.reference.specs.Writer.{viewCheck, shortCheck, told, left}
 use Rattle.reference.specs.Names.{layoutShort, readShort, readShortName, shortAt, shortSize, shortImage, shortNameCheck, shortWritten, shortLeaves}
 use Rattle.octets.proofs.Part.{length-part}
 use Rattle.reference.proofs.Laws.{guard-ok, guard-pass, pass-pass, not-ltb}
 use Rattle.reference.proofs.Steps.{need-cut, need-pass, run-cut, run-pass, seen-ok, seen-no}
-use Rattle.reference.proofs.Checks.{stop, go, passed, le-test}
+use Rattle.reference.proofs.Checks.{stop, go, passed, le-test, lt-test}
 use Rattle.reference.proofs.Sizes.{length-shown}
 use Rattle.reference.proofs.Names.{Passing, passing}
 use Rattle.names.specs.Told.{counted}
@@ -142,16 +141,12 @@ module _ (d : List ℕ) (h : length d ≤ 65535) where
 
 -- ---- the checks of writing
 
-gt-test : (a b : ℕ) (r : Refusal) → b < a → test (leb a b) r ≡ Refuse r
-unfolding test
-gt-test a b r h = ap (λ (t : Bool). test t r) (lt-leb a b h)
-
 module _ (id kind : ℕ) where
   pub id-long : 255 < id → both (shortCheck id) (shortCheck kind) ≡ Refuse (refusal 2 0 id 255)
-  id-long h = stop _ _ _ (gt-test id 255 (refusal 2 0 id 255) h)
+  id-long h = stop _ _ _ (lt-test id 255 (refusal 2 0 id 255) h)
 
   pub kind-long : id ≤ 255 → 255 < kind → both (shortCheck id) (shortCheck kind) ≡ Refuse (refusal 2 0 kind 255)
-  kind-long a h = go _ _ (le-test id 255 (refusal 2 0 id 255) a) ∙ gt-test kind 255 (refusal 2 0 kind 255) h
+  kind-long a h = go _ _ (le-test id 255 (refusal 2 0 id 255) a) ∙ lt-test kind 255 (refusal 2 0 kind 255) h
 
   pub both-short : id ≤ 255 → kind ≤ 255 → both (shortCheck id) (shortCheck kind) ≡ Pass
   both-short a b = passed (le-test id 255 (refusal 2 0 id 255) a) (le-test kind 255 (refusal 2 0 kind 255) b)
@@ -159,13 +154,13 @@ module _ (id kind : ℕ) where
 module _ (x : NameComponent) (n m : ℕ) where
   pub source-large : 65535 < n → shortNameCheck x n m ≡ Refuse (refusal 6 0 n 65535)
   unfolding shortNameCheck
-  source-large h = stop _ _ _ (gt-test n 65535 (refusal 6 0 n 65535) h)
+  source-large h = stop _ _ _ (lt-test n 65535 (refusal 6 0 n 65535) h)
 
   module _ (small : n ≤ 65535) where
     pub id-outside : n < x .id .at + x .id .len → shortNameCheck x n m ≡ Refuse (refusal 9 0 (x .id .at) (x .id .len))
     unfolding shortNameCheck
     id-outside h =
-        go _ _ (le-test n 65535 (refusal 6 0 n 65535) small) ∙ stop _ _ _ (stop _ _ _ (gt-test (x .id .at + x .id .len) n (refusal 9 0 (x .id .at) (x .id .len)) h))
+        go _ _ (le-test n 65535 (refusal 6 0 n 65535) small) ∙ stop _ _ _ (stop _ _ _ (lt-test (x .id .at + x .id .len) n (refusal 9 0 (x .id .at) (x .id .len)) h))
 
     module _ (i : x .id .at + x .id .len ≤ n) where
       pub kind-outside : n < x .kind .at + x .kind .len → shortNameCheck x n m ≡ Refuse (refusal 9 0 (x .kind .at) (x .kind .len))
@@ -174,7 +169,7 @@ module _ (x : NameComponent) (n m : ℕ) where
           go _ _ (le-test n 65535 (refusal 6 0 n 65535) small)
           ∙ stop _ _ _
           (go _ _ (le-test (x .id .at + x .id .len) n (refusal 9 0 (x .id .at) (x .id .len)) i)
-          ∙ gt-test (x .kind .at + x .kind .len) n (refusal 9 0 (x .kind .at) (x .kind .len)) h)
+          ∙ lt-test (x .kind .at + x .kind .len) n (refusal 9 0 (x .kind .at) (x .kind .len)) h)
 
       module _ (k : x .kind .at + x .kind .len ≤ n) where
         views : both (viewCheck n 0 (x .id)) (viewCheck n 0 (x .kind)) ≡ Pass
@@ -185,7 +180,7 @@ module _ (x : NameComponent) (n m : ℕ) where
         pub no-room : m < shortSize x → shortNameCheck x n m ≡ Refuse (refusal 5 0 (shortSize x) m)
         unfolding shortNameCheck
         no-room h =
-            go _ _ (le-test n 65535 (refusal 6 0 n 65535) small) ∙ go _ _ views ∙ stop _ _ _ (gt-test (shortSize x) m (refusal 5 0 (shortSize x) m) h)
+            go _ _ (le-test n 65535 (refusal 6 0 n 65535) small) ∙ go _ _ views ∙ stop _ _ _ (lt-test (shortSize x) m (refusal 5 0 (shortSize x) m) h)
 
         pub lengths-left : shortSize x ≤ m → shortNameCheck x n m ≡ both (shortCheck (x .id .len)) (shortCheck (x .kind .len))
         unfolding shortNameCheck

@@ -16,8 +16,7 @@ use Rattle.reference.specs.Tables.{usedOf, ownedOf}
 use Rattle.reference.specs.Reader.{refusal}
 use Rattle.reference.specs.Checks.{both, each}
 use Rattle.reference.specs.Writer.{sizeOf, imageOf, countsCheck, roomCheck, typeCheck, ownShort, measureCheck, writeCheck, told, left, written, leaves}
-use Rattle.reference.proofs.Checks.{stop, go, passes, le-test, eq-test}
-use Rattle.measuring.proofs.Tests.{lt-test, ne-test}
+use Rattle.reference.proofs.Checks.{stop, go, passes, le-test, eq-test, lt-test, ne-test}
 use Rattle.writing.specs.Writes.{Writes}
 
 -- the checks that follow those of measuring

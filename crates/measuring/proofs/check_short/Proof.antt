@@ -2,8 +2,7 @@
 use borrow.Author.Needs.{needs}
 use mathlib.Core.Path.{sym, ap, _∙_}
 use Rattle.reference.specs.declared.Check.the-variants.{Refuse}
-use Rattle.reference.proofs.Checks.{le-test}
-use Rattle.measuring.proofs.Tests.{lt-test}
+use Rattle.reference.proofs.Checks.{le-test, lt-test}
 use Rattle.measuring.proofs.check_short.Statement.{statement}
 use Rattle.measuring.proofs.check_short.Tie as tie
 

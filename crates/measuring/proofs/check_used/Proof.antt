@@ -2,8 +2,7 @@
 use borrow.Author.Needs.{needs}
 use mathlib.Core.Path.{sym, ap, _∙_}
 use Rattle.reference.specs.declared.Check.the-variants.{Refuse}
-use Rattle.reference.proofs.Checks.{stop, go, passed, le-test, eq-test}
-use Rattle.measuring.proofs.Tests.{lt-test, ne-test}
+use Rattle.reference.proofs.Checks.{stop, go, passed, le-test, eq-test, lt-test, ne-test}
 use Rattle.measuring.proofs.check_used.Statement.{statement}
 use Rattle.measuring.proofs.check_used.Tie as tie
 

@@ -3,8 +3,7 @@ use borrow.Author.Needs.{needs}
 use Prim.Native.Nat.{_+_}
 use mathlib.Core.Path.{sym, ap, _∙_}
 use Rattle.reference.specs.declared.Check.the-variants.{Refuse}
-use Rattle.reference.proofs.Checks.{le-test}
-use Rattle.measuring.proofs.Tests.{lt-test}
+use Rattle.reference.proofs.Checks.{le-test, lt-test}
 use Rattle.measuring.proofs.check_view.Statement.{statement}
 use Rattle.measuring.proofs.check_view.Tie as tie
 
