@@ -1,12 +1,11 @@
--- The used entries of a lent table, list by list; and what the used counts promise, once they pass. Assumes nothing.
+-- The used entries of a lent table, list by list; and what its used counts promise, once they pass. Assumes nothing.
 use Prim.Native.Nat.{ℕ, _≤_}
 use mathlib.Core.Path.{_≡_}
 use mathlib.Core.List.{List}
 use lib.ListN.{getD}
 use Rattle.reference.specs.declared.Check.the-variants.{Pass}
-use Rattle.reference.specs.Tables.{tapsIn, namesIn, extrasIn}
-use Rattle.reference.specs.Writer.{counted, countsCheck}
-use Rattle.reference.proofs.Checks.{passes, test-le, test-eq}
+use Rattle.reference.specs.Writer.{countsCheck}
+use Rattle.reference.proofs.Agreeing as Counts
 use Rattle.table.specs.Flat.{tablesFrom, profileFrom, tapFrom, nameFrom, extraFrom, tapOfTable, nameOfTable, extraOfTable}
 use Rattle.table.proofs.Entries.{profileOfTable}
 use Rattle.measuring.specs.ByTable.{usedIn}
@@ -30,30 +29,13 @@ module _ (t : List ℕ) where
   extras-listed h = listed extraFrom 3 t 394 32 (getD t 5 0) h
 
 -- used counts within the sizes, and equal to the sums
-pub record Agreeing (t : List ℕ) : Type 0 where
-  pub profiles : getD t 2 0 ≤ 8
-  pub taps : getD t 3 0 ≤ 36
-  pub tapsSum : counted tapsIn (usedIn t .profiles) ≡ getD t 3 0
-  pub names : getD t 4 0 ≤ 32
-  pub namesSum : counted namesIn (usedIn t .profiles) ≡ getD t 4 0
-  pub extras : getD t 5 0 ≤ 32
-  pub extrasSum : counted extrasIn (usedIn t .profiles) ≡ getD t 5 0
+abbrev pub Agreeing : List ℕ → Type 0
+Agreeing t = Counts.Agreeing (usedIn t .profiles) (getD t 2 0) (getD t 3 0) (getD t 4 0) (getD t 5 0)
 
 pub agreeing : (t : List ℕ) → countsCheck (tablesFrom t) ≡ Pass → Agreeing t
-unfolding countsCheck tablesFrom
-agreeing t h =
-    let (p, r₁) = passes _ _ h in
-    let (a, r₂) = passes _ _ r₁ in
-    let (b, c) = passes _ _ r₂ in
-    let (ta, sa) = passes _ _ a in
-    let (tb, sb) = passes _ _ b in
-    let (tc, sc) = passes _ _ c in
-    record {
-      profiles = test-le _ _ _ p;
-      taps = test-le _ _ _ ta;
-      tapsSum = test-eq _ _ _ sa;
-      names = test-le _ _ _ tb;
-      namesSum = test-eq _ _ _ sb;
-      extras = test-le _ _ _ tc;
-      extrasSum = test-eq _ _ _ sc;
-    }
+unfolding tablesFrom
+agreeing t h = Counts.agreeing (tablesFrom t) h
+
+pub agreed : (t : List ℕ) → Agreeing t → countsCheck (tablesFrom t) ≡ Pass
+unfolding tablesFrom
+agreed t g = Counts.agreed (tablesFrom t) g

@@ -15,12 +15,12 @@ use Rattle.table.proofs.Entries.{type-id-entry}
 use Rattle.exact.proofs.Every.{and-left, and-right}
 use Rattle.measuring.specs.ByTable.{usedIn}
 use Rattle.measuring.proofs.ByTable.{sizes-by-table}
-use Rattle.measuring.proofs.Tables.{Agreeing}
+use Rattle.measuring.proofs.Tables.{Agreeing, agreed as counts-pass}
 use Rattle.quick.specs.declared.Found.{Found}
 use Rattle.quick.specs.declared.Share.{Share}
 use Rattle.quick.specs.Marks.{holds, within, allWithin, agreed, allAgreed, EntriesFound, Profiles}
 use Rattle.quick.proofs.Marks.{or-holds, or-more}
-use Rattle.quick.proofs.Whole.{Inside, counts-pass}
+use Rattle.quick.proofs.Whole.{Inside}
 
 -- both hold
 all-of : {a b : Bool} → a ≡ true → b ≡ true → (a && b) ≡ true

@@ -10,13 +10,13 @@ use Rattle.reference.specs.declared.Check.{Check}
 use Rattle.reference.specs.declared.Check.the-variants.{Pass, Refuse}
 use Rattle.reference.specs.Checks.{each}
 use Rattle.reference.specs.Tables.{bodyView}
-use Rattle.reference.specs.Writer.{sizeOf, countsCheck, entryViews, viewsCheck, measureCheck}
-use Rattle.reference.proofs.Checks.{passes, passed, test-le, le-test, eq-test}
+use Rattle.reference.specs.Writer.{sizeOf, entryViews, viewsCheck, measureCheck}
+use Rattle.reference.proofs.Checks.{passes, passed, test-le, le-test}
 use Rattle.table.specs.Flat.{tablesFrom, viewFrom, bodyOfTable}
 use Rattle.exact.specs.Exact.{profilesExact, tapsExact, exact}
 use Rattle.exact.proofs.Every.{and-left, and-right, every-at}
 use Rattle.measuring.specs.ByTable.{usedIn}
-use Rattle.measuring.proofs.Tables.{Agreeing, agreeing, profiles-listed}
+use Rattle.measuring.proofs.Tables.{Agreeing, agreeing, agreed as counts-pass, profiles-listed}
 use Rattle.measuring.proofs.ByTable.{body-views}
 use Rattle.quick.specs.declared.Quick.the-variants.{Length, Unknown}
 use Rattle.quick.specs.Marks.{within, allWithin, profilesWithin, passing, quickly, sound}
@@ -56,15 +56,7 @@ module _ (t : List ℕ) (n : ℕ) (h : getD t 2 0 ≤ 8) where
       all-every (λ i. within n (bodyView (bodyOfTable t i))) (getD t 2 0)
       (λ i k. view-check n 40 _ _ refl (body-views n (bodyOfTable t i) refl ∙ all-each (profiles-listed t h) (entryViews n) p i k))
 
--- ---- the counts
 module _ (t : List ℕ) where
-  pub counts-pass : Agreeing t → countsCheck (tablesFrom t) ≡ Pass
-  unfolding countsCheck tablesFrom
-  counts-pass g =
-      passed (le-test _ _ _ (g .profiles))
-      (passed (passed (le-test _ _ _ (g .taps)) (eq-test _ _ _ (g .tapsSum)))
-      (passed (passed (le-test _ _ _ (g .names)) (eq-test _ _ _ (g .namesSum))) (passed (le-test _ _ _ (g .extras)) (eq-test _ _ _ (g .extrasSum)))))
-
   -- ---- exactness, of used counts within the tables' sizes
   exact-used : getD t 2 0 ≤ 8 → getD t 3 0 ≤ 36 → exact t ≡ (profilesExact t (getD t 2 0) && tapsExact t (getD t 3 0))
   unfolding exact
@@ -78,7 +70,7 @@ module _ (t : List ℕ) where
         let g = w .counts in
         let i = w .inside in
         let views = passed (check-view n 0 _ _ refl (i .front)) (passed (profiles-pass t n (g .profiles) (i .profiles)) (passed (taps-pass t n (g .taps) (i .taps)) (passed (names-pass t n (g .names) (i .names)) (extras-pass t n (g .extras) (i .extras))))) in
-        let measures = passed (le-test n 65535 _ (w .source)) (passed (counts-pass g) (passed views (le-test _ 65535 _ (w .image)))) in
+        let measures = passed (le-test n 65535 _ (w .source)) (passed (counts-pass t g) (passed views (le-test _ 65535 _ (w .image)))) in
         ap₂ (λ (a b : Bool). a && b) (exact-used (g .profiles) (g .taps) ∙ ap₂ (λ (a b : Bool). a && b) (i .profileFields) (i .tapFields)) (ap passing measures)
 
     -- ---- and back

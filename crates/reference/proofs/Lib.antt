@@ -6,6 +6,7 @@ pub mod Shown
 pub mod Octs
 pub mod Back
 pub mod Checks
+pub mod Agreeing
 pub mod Sizes
 pub mod Constants
 pub mod Fitting

@@ -37,7 +37,7 @@ pub record Walked (t : List ℕ) (i : ℕ) (f : Counts) : Type 0 where
 module _ (t : List ℕ) (n m : ℕ) (p : Passing (tablesFrom t) n m) where
   -- as many as are used
   pub profiles-count : length (usedIn t .profiles) ≡ tablesFrom t .«profiles_used»
-  profiles-count = length-take-le (tablesFrom t .«profiles_used») (tablesFrom t .profiles) (omega (arith, profiles-length t, p .profiles))
+  profiles-count = length-take-le (tablesFrom t .«profiles_used») (tablesFrom t .profiles) (omega (arith, profiles-length t, p .counts .profiles))
 
   pub meanings-count : {B : Type 0} (g : Own → B) → length (map g (ownedOf (usedIn t))) ≡ getD t 2 0
   meanings-count g =
@@ -51,7 +51,7 @@ module _ (t : List ℕ) (n m : ℕ) (p : Passing (tablesFrom t) n m) where
     here-body : getD (usedIn t .profiles) i noProfile .body ≡ bodyOfTable t i
     here-body =
         ap (λ (x : Profile). x .body)
-        (getD-take (tablesFrom t .«profiles_used») (tablesFrom t .profiles) i noProfile h ∙ profile-entry t i (omega (arith, p .profiles)))
+        (getD-take (tablesFrom t .«profiles_used») (tablesFrom t .profiles) i noProfile h ∙ profile-entry t i (omega (arith, p .counts .profiles)))
 
     -- one profile more, of whatever it counts
     more : (g : TaggedProfile → ℕ) → counted g (take i (usedIn t .profiles)) + g (bodyOfTable t i) ≡ counted g (take (i + 1) (usedIn t .profiles))
@@ -65,9 +65,9 @@ module _ (t : List ℕ) (n m : ℕ) (p : Passing (tablesFrom t) n m) where
     pub walk-placed : Placed f (countsIn (bodyOfTable t i))
     walk-placed =
         record {
-          taps = omega (arith, w .taps, within tapsIn, p .tapsSum, p .taps);
-          names = omega (arith, w .names, within namesIn, p .namesSum, p .names);
-          extras = omega (arith, w .extras, within extrasIn, p .extrasSum, p .extras);
+          taps = omega (arith, w .taps, within tapsIn, p .counts .tapsSum, p .counts .taps);
+          names = omega (arith, w .names, within namesIn, p .counts .namesSum, p .counts .names);
+          extras = omega (arith, w .extras, within extrasIn, p .counts .extrasSum, p .counts .extras);
         }
 
     pub walk-on : Walked t (i + 1) (afterOf f (countsIn (bodyOfTable t i)))
@@ -83,9 +83,9 @@ module _ (t : List ℕ) (n m : ℕ) (p : Passing (tablesFrom t) n m) where
     walk-open =
         let u = usedIn t in
         let b = bodyOfTable t i in
-        let ts = some-used (tablesFrom t .«taps_used») (tablesFrom t .taps) (f .taps) (tapsIn b) (omega (arith, w .taps, within tapsIn, p .tapsSum)) in
-        let ns = some-used (tablesFrom t .«names_used») (tablesFrom t .names) (f .names) (namesIn b) (omega (arith, w .names, within namesIn, p .namesSum)) in
-        let es = some-used (tablesFrom t .«extras_used») (tablesFrom t .extras) (f .extras) (extrasIn b) (omega (arith, w .extras, within extrasIn, p .extrasSum)) in
+        let ts = some-used (tablesFrom t .«taps_used») (tablesFrom t .taps) (f .taps) (tapsIn b) (omega (arith, w .taps, within tapsIn, p .counts .tapsSum)) in
+        let ns = some-used (tablesFrom t .«names_used») (tablesFrom t .names) (f .names) (namesIn b) (omega (arith, w .names, within namesIn, p .counts .namesSum)) in
+        let es = some-used (tablesFrom t .«extras_used») (tablesFrom t .extras) (f .extras) (extrasIn b) (omega (arith, w .extras, within extrasIn, p .counts .extrasSum)) in
         ahead-open (u .profiles) (u .taps) (u .names) (u .extras) noProfile i (f .taps) (f .names) (f .extras) (omega (arith, profiles-count))
         ∙ ap (λ (x : TaggedProfile). hereWith u f x ∷ leftAt t (i + 1) (afterOf f (countsIn x))) here-body
         ∙ (λ j. record { body = b; taps = ts j; names = ns j; extras = es j } ∷ leftAt t (i + 1) (afterOf f (countsIn b)))

@@ -68,7 +68,7 @@ counts-at-requires : tie.Need-counts-at-requires Inv-loop μ-loop
 counts-at-requires c κs =
     let l = c .before in
     let s = l .before .before .before .before .before in
-    (omega (arith, l .loop .inv .1, passed s .profiles), s .pre .0 .0)
+    (omega (arith, l .loop .inv .1, passed s .counts .profiles), s .pre .0 .0)
 
 write-profile-requires : tie.Need-write-profile-requires Inv-loop μ-loop
 write-profile-requires c κs =
@@ -76,7 +76,7 @@ write-profile-requires c κs =
     let k = v .before in
     let l = k .before in
     let s = l .before .before .before .before .before in (
-      (omega (arith, l .loop .inv .1, passed s .profiles), s .pre .0 .0),
+      (omega (arith, l .loop .inv .1, passed s .counts .profiles), s .pre .0 .0),
       ((v .counts-at .ensures, inside v), (fits (opened k) (l .loop .inv .3), room (opened k) (l .loop .inv .3) (s .pre .1))),
     )
 
@@ -86,7 +86,7 @@ after-requires c κs = inside (c .before .before .before .before)
 add-i : tie.Need-add-i Inv-loop μ-loop
 add-i c =
     let l = c .before .before .before .before .before .before .before in
-    omega (arith, l .loop .inv .1, passed (l .before .before .before .before .before) .profiles)
+    omega (arith, l .loop .inv .1, passed (l .before .before .before .before .before) .counts .profiles)
 
 loop-less : tie.Need-loop-less Inv-loop μ-loop
 loop-less c = omega arith
