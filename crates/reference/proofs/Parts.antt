@@ -118,7 +118,7 @@ address-reads =
     reads-number 4 (λ a. a .reserved) tt (λ a g. g .0 .0 .0 .0 .0 .0 .0 .0 .0 .0 .reserved) λ z hz.
     reads-done _ (search arith) (λ a g. search address-path))
 
-name-path : {n : Name} {i k : List ℕ} → n .id ≡ i → n .kind ≡ k → n ≡ record { id = i; kind = k }
+pub name-path : {n : Name} {i k : List ℕ} → n .id ≡ i → n .kind ≡ k → n ≡ record { id = i; kind = k }
 name-path p q = λ x. record { id = p x; kind = q x }
 
 pub name-reads : Reads 0 readName layoutName GoodName
