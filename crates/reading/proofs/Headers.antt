@@ -16,7 +16,7 @@ use Rattle.reference.specs.Layout.{tag-biop, tag-lite}
 use Rattle.reference.specs.Reader.{Answer, ok, refused, refusal, pick, followed, seen, need, number, run, choose, inside, after, done, readBiop, readLite, readProfile}
 use Rattle.reference.proofs.Laws.{guard-ok, guard-pass, pass-pass, not-ltb}
 use Rattle.reference.proofs.Steps.{need-cut, need-pass, run-cut, run-pass}
-use Rattle.table.proofs.Stored.{side}
+use Rattle.reference.proofs.Constants.{side}
 use Rattle.reading.specs.Open.{readHeader, readBody}
 
 -- ---- a profile's header, by the cases of the code

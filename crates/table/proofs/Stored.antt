@@ -1,9 +1,9 @@
 -- The laws of entries stored in a table of numbers, over the entry's width and sort: entries after entries, sorts in either order.
 -- Each asks only that the region lies within the table, nothing of the first entry's number or of how many there are. Assumes nothing.
-use Prim.Native.Nat.{ℕ, zero, suc, _+_, _-_, _*_, _<_, _≤_}
+use Prim.Native.Nat.{ℕ, _+_, _-_, _*_, _<_, _≤_}
 use mathlib.Core.Path.{_≡_, refl, sym, ap, _∙_}
 use mathlib.Core.List.{List, [], _∷_, _++_, map, append-assoc, append-nil}
-use mathlib.Core.Logic.{_⊎_, inl, inr, ⊎-elim}
+use mathlib.Core.Logic.{⊎-elim}
 use native.Mathlib.Nat.{mul-le-mul-left, mul-add, mul-suc, mul-zero, le-of-lt}
 use native.Mathlib.Numerals.{add-one}
 use native.Mathlib.Omega.{arith}
@@ -11,6 +11,7 @@ use lib.ListN.{length, take, getD, length-append, length-take}
 use lib.Seq.{take-suc, length-take-le, take-all, take-append-le, take-append-add}
 use Rattle.octets.specs.Octets.{joined, splice}
 use Rattle.octets.proofs.Splice.{splice-length, splice-none, splice-splice, splice-comm}
+use Rattle.reference.proofs.Constants.{side}
 use Rattle.table.specs.Region.{Region, stored}
 
 pub joined-append : (xs ys : List (List ℕ)) → joined (xs ++ ys) ≡ joined xs ++ joined ys
@@ -20,11 +21,6 @@ joined-append (x ∷ xs) ys = ap (λ (r : List ℕ). x ++ r) (joined-append xs y
 pub map-append : {A B : Type 0} (f : A → B) (xs ys : List A) → map f (xs ++ ys) ≡ map f xs ++ map f ys
 map-append f [] ys = refl
 map-append {B = B} f (x ∷ xs) ys = ap (λ (r : List B). f x ∷ r) (map-append f xs ys)
-
-pub side : (a b : ℕ) → (a ≤ b) ⊎ (b < a)
-side zero b = inl (omega arith)
-side (suc a) zero = inr (omega arith)
-side (suc a) (suc b) = ⊎-elim (λ h. inl (omega arith)) (λ h. inr (omega arith)) (side a b)
 
 module _ {E : Type 0} (g : Region E) where
   pub stored-full : (t : List ℕ) (k : ℕ) (xs : List E) → g .size ≤ k → stored g t k xs ≡ t
