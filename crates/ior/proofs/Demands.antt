@@ -41,8 +41,6 @@ use Rattle.names.specs.Told.{shortTold}
 use Rattle.names.specs.Writes as Short
 use Rattle.names.proofs.Promises as names
 
--- and that tables keep to their types (`Typed`) is what the language gives a caller; nothing else is asked. Assumes nothing.
-
 -- the reading that accepts n octets with the tables t
 abbrev pub taking : ℕ → Tables → Reading
 taking n t = record { answer = Count n; tables = t }
