@@ -1,6 +1,6 @@
--- Whether every entry before n passes: one more, one that fails, and each of those that pass. Assumes nothing.
+-- Whether every entry before n passes: one more, all of them, one that fails, and each of those that pass. Assumes nothing.
 use Prim.Native.Nat.{ℕ, zero, suc, _+_, _<_, _≤_}
-use mathlib.Core.Path.{_≡_, refl, sym, ap, _∙_}
+use mathlib.Core.Path.{_≡_, refl, sym, ap, ap₂, _∙_}
 use mathlib.Core.Bool.{Bool, true, false, _&&_, and-false}
 use native.Mathlib.Numerals.{add-one}
 use native.Mathlib.Omega.{arith}
@@ -8,7 +8,7 @@ use lib.Dec.{ltb}
 use borrow.Author.Tests.{ltb-true, ltb-false}
 use Rattle.exact.specs.Exact.{every}
 
--- both halves of what passes
+-- both halves of what passes, and both together
 pub and-left : (a b : Bool) → (a && b) ≡ true → a ≡ true
 and-left true b e = refl
 and-left false b e = e
@@ -17,10 +17,22 @@ pub and-right : (a b : Bool) → (a && b) ≡ true → b ≡ true
 and-right true b e = e
 and-right false b e = let z : _≡_ {A = ℕ} 0 1 = cc in absurd (omega arith)
 
+pub and-both : {a b : Bool} → a ≡ true → b ≡ true → (a && b) ≡ true
+and-both p q = ap₂ (λ (a b : Bool). a && b) p q
+
 module _ (f : ℕ → Bool) where
-  pub every-more : (i : ℕ) → every f i ≡ true → f i ≡ true → every f (i + 1) ≡ true
+  -- one entry more
+  pub every-next : (i : ℕ) → every f (i + 1) ≡ (every f i && f i)
   unfolding every
-  every-more i a b = rw add-one (simp (a, b))
+  every-next i = rw add-one refl
+
+  pub every-more : (i : ℕ) → every f i ≡ true → f i ≡ true → every f (i + 1) ≡ true
+  every-more i a b = every-next i ∙ and-both a b
+
+  pub all-every : (n : ℕ) → ((i : ℕ) → i < n → f i ≡ true) → every f n ≡ true
+  unfolding every
+  all-every zero h = refl
+  all-every (suc n) h = and-both (all-every n (λ i k. h i (omega arith))) (h n (omega arith))
 
   fails : (i n : ℕ) (b : Bool) → ltb i n ≡ b → i < suc n → f i ≡ false → every f (suc n) ≡ false
   unfolding every

@@ -17,13 +17,13 @@ use Rattle.reference.specs.Writer.{tapSize, nameSize, extraSize, viewCheck, tap
 use Rattle.reference.proofs.Checks.{passes, passed, test-le, le-test, each-cons, each-drop}
 use Rattle.table.specs.Flat.{viewFrom, tapOfTable, nameOfTable, extraOfTable}
 use Rattle.entries.proofs.Numbers.{view-first, view-in}
-use Rattle.exact.proofs.Every.{every-at}
+use Rattle.exact.proofs.Every.{all-every, every-at}
 use Rattle.measuring.specs.ByTable.{usedIn}
 use Rattle.measuring.proofs.Going.{Summing, Checking, sum-begin, sum-turn, sum-end, check-begin, check-turn, check-end}
 use Rattle.measuring.proofs.Listed.{Listed, opens}
 use Rattle.measuring.proofs.Tables.{taps-listed, names-listed, extras-listed}
 use Rattle.quick.specs.Marks.{total, within, lengthsOf, allWithin}
-use Rattle.quick.proofs.Upto.{all-every, total-fixed, total-pairs}
+use Rattle.quick.proofs.Upto.{total-fixed, total-pairs}
 
 -- ---- a list whose elements a function of the index tells
 module _ {E : Type 0} {xs : List E} {e : ℕ → E} {n : ℕ} (l : Listed xs e n) where

@@ -1,6 +1,6 @@
 -- What the passes over profiles and entries find, put together: the counts agree, every mark holds, and the octets are the image's. Assumes nothing.
 use Prim.Native.Nat.{ℕ, _+_, _*_, _≤_}
-use mathlib.Core.Path.{_≡_, sym, ap, ap₂, _∙_}
+use mathlib.Core.Path.{_≡_, sym, ap, _∙_}
 use mathlib.Core.Bool.{Bool, true, _&&_}
 use mathlib.Core.List.{List}
 use native.Mathlib.Omega.{arith}
@@ -12,7 +12,7 @@ use Rattle.reference.specs.declared.View.{View}
 use Rattle.reference.specs.Writer.{sizeOf}
 use Rattle.table.specs.Flat.{viewFrom}
 use Rattle.table.proofs.Entries.{type-id-entry}
-use Rattle.exact.proofs.Every.{and-left, and-right}
+use Rattle.exact.proofs.Every.{and-left, and-right, and-both}
 use Rattle.measuring.specs.ByTable.{usedIn}
 use Rattle.measuring.proofs.ByTable.{sizes-by-table}
 use Rattle.measuring.proofs.Tables.{Agreeing, agreed as counts-pass}
@@ -21,10 +21,6 @@ use Rattle.quick.specs.declared.Share.{Share}
 use Rattle.quick.specs.Marks.{holds, within, allWithin, agreed, allAgreed, EntriesFound, Profiles}
 use Rattle.quick.proofs.Marks.{or-holds, or-more}
 use Rattle.quick.proofs.Whole.{Inside}
-
--- both hold
-all-of : {a b : Bool} → a ≡ true → b ≡ true → (a && b) ≡ true
-all-of p q = ap₂ (λ (a b : Bool). a && b) p q
 
 agrees : (used size total : ℕ) → agreed used size total ≡ true → (used ≤ size) × (total ≡ used)
 agrees used size total e = (leb-true used size (and-left (leb used size) (eqb total used) e), eqb-true total used (and-right (leb used size) (eqb total used) e))
@@ -72,8 +68,8 @@ module _ (t : List ℕ) (n : ℕ) (p : Share) (ps : Profiles n t p) where
 
   pub agree-back : Agreeing t → allAgreed t (p .taps) (p .names) (p .extras) ≡ true
   agree-back g =
-      all-of (all-of (all-of (le-leb _ _ (g .taps)) (eq-eqb _ _ (ps .taps ∙ g .tapsSum))) (all-of (le-leb _ _ (g .names)) (eq-eqb _ _ (ps .names ∙ g .namesSum))))
-      (all-of (le-leb _ _ (g .extras)) (eq-eqb _ _ (ps .extras ∙ g .extrasSum)))
+      and-both (and-both (and-both (le-leb _ _ (g .taps)) (eq-eqb _ _ (ps .taps ∙ g .tapsSum))) (and-both (le-leb _ _ (g .names)) (eq-eqb _ _ (ps .names ∙ g .namesSum))))
+      (and-both (le-leb _ _ (g .extras)) (eq-eqb _ _ (ps .extras ∙ g .extrasSum)))
 
   -- .. and find_entries
   module _ (e : Found) (es : EntriesFound n t e) where
@@ -107,4 +103,4 @@ module _ (t : List ℕ) (n : ℕ) (p : Share) (ps : Profiles n t p) where
       inside-back i =
           or-more (bitOr (p .fields) (e .fields)) _ (or-more (p .fields) (e .fields) (ps .fields ∙ i .profileFields) (es .fields ∙ i .tapFields))
           (or-more (bitOr m (p .ends)) (e .ends) (or-more m (p .ends) (front ∙ i .front) (ps .ends ∙ i .profiles))
-          (es .ends ∙ all-of (all-of (i .taps) (i .names)) (i .extras)))
+          (es .ends ∙ and-both (and-both (i .taps) (i .names)) (i .extras)))

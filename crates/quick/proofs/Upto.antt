@@ -1,22 +1,10 @@
--- What holds of all numbers before n, and what is summed over them: one more, all of them, and two by two. Assumes nothing.
+-- What is summed over all numbers before n: one more, two by two, and each with a fixed number. Assumes nothing.
 use Prim.Native.Nat.{ℕ, zero, suc, _+_, _*_, _<_, _≤_}
-use mathlib.Core.Path.{_≡_, refl, ap, ap₂, _∙_}
-use mathlib.Core.Bool.{Bool, true, _&&_}
+use mathlib.Core.Path.{_≡_, refl, ap, _∙_}
 use native.Mathlib.Nat.{mul-le-mul-left}
 use native.Mathlib.Numerals.{add-one}
 use native.Mathlib.Omega.{arith}
-use Rattle.exact.specs.Exact.{every}
 use Rattle.quick.specs.Marks.{total}
-
-module _ (f : ℕ → Bool) where
-  pub every-next : (i : ℕ) → every f (i + 1) ≡ (every f i && f i)
-  unfolding every
-  every-next i = rw add-one refl
-
-  pub all-every : (n : ℕ) → ((i : ℕ) → i < n → f i ≡ true) → every f n ≡ true
-  unfolding every
-  all-every zero h = refl
-  all-every (suc n) h = ap₂ (λ (a b : Bool). a && b) (all-every n (λ i k. h i (omega arith))) (h n (omega arith))
 
 module _ (g : ℕ → ℕ) where
   pub total-next : (i : ℕ) → total g (i + 1) ≡ total g i + g i

@@ -14,13 +14,12 @@ use Rattle.reference.specs.Writer.{sizeOf, entryViews, viewsCheck, measureCheck
 use Rattle.reference.proofs.Checks.{passes, passed, test-le, le-test}
 use Rattle.table.specs.Flat.{tablesFrom, viewFrom, bodyOfTable}
 use Rattle.exact.specs.Exact.{profilesExact, tapsExact, exact}
-use Rattle.exact.proofs.Every.{and-left, and-right, every-at}
+use Rattle.exact.proofs.Every.{and-left, and-right, and-both, all-every, every-at}
 use Rattle.measuring.specs.ByTable.{usedIn}
 use Rattle.measuring.proofs.Tables.{Agreeing, agreeing, agreed as counts-pass, profiles-listed}
 use Rattle.measuring.proofs.ByTable.{body-views}
 use Rattle.quick.specs.declared.Quick.the-variants.{Length, Unknown}
 use Rattle.quick.specs.Marks.{within, allWithin, profilesWithin, passing, quickly, sound}
-use Rattle.quick.proofs.Upto.{all-every}
 use Rattle.quick.proofs.Lists.{each-all, all-each, check-view, view-check, taps-pass, taps-within, names-pass, names-within, extras-pass, extras-within}
 
 -- the fields fit and the views end within the source
@@ -71,7 +70,7 @@ module _ (t : List ℕ) where
         let i = w .inside in
         let views = passed (check-view n 0 _ _ refl (i .front)) (passed (profiles-pass t n (g .profiles) (i .profiles)) (passed (taps-pass t n (g .taps) (i .taps)) (passed (names-pass t n (g .names) (i .names)) (extras-pass t n (g .extras) (i .extras))))) in
         let measures = passed (le-test n 65535 _ (w .source)) (passed (counts-pass t g) (passed views (le-test _ 65535 _ (w .image)))) in
-        ap₂ (λ (a b : Bool). a && b) (exact-used (g .profiles) (g .taps) ∙ ap₂ (λ (a b : Bool). a && b) (i .profileFields) (i .tapFields)) (ap passing measures)
+        and-both (exact-used (g .profiles) (g .taps) ∙ and-both (i .profileFields) (i .tapFields)) (ap passing measures)
 
     -- ---- and back
     pub whole : sound t n ≡ true → Whole t n

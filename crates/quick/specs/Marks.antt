@@ -11,7 +11,7 @@ use Rattle.reference.specs.declared.Check.the-variants.{Pass, Refuse}
 use Rattle.reference.specs.Checks.{sum}
 use Rattle.reference.specs.Tables.{tapsIn, namesIn, extrasIn, bodyView}
 use Rattle.reference.specs.Writer.{tapSize, nameSize, extraSize, counted, measureCheck}
-use Rattle.table.specs.Flat.{bodyFrom, bodyOfTable, tablesFrom}
+use Rattle.table.specs.Flat.{viewFrom, bodyFrom, bodyOfTable, tablesFrom}
 use Rattle.exact.specs.Exact.{every, profileExact, profilesExact, tapsExact, exact}
 use Rattle.measuring.specs.ByTable.{fixedSize, entrySize, usedIn}
 use Rattle.quick.specs.declared.Found.{Found as Sums}
@@ -34,10 +34,10 @@ within n v = leb (v .at + v .len) n
 
 -- the views that stand at first, first + width, ..: the sum of their lengths, and whether each ends within n octets
 abbrev pub lengthsOf : List ℕ → ℕ → ℕ → ℕ → ℕ
-lengthsOf t first width count = total (λ i. getD t (first + width * i + 1) 0) count
+lengthsOf t first width count = total (λ i. viewFrom t (first + width * i) .len) count
 
 abbrev pub allWithin : ℕ → List ℕ → ℕ → ℕ → ℕ → Bool
-allWithin n t first width count = every (λ i. leb (getD t (first + width * i) 0 + getD t (first + width * i + 1) 0) n) count
+allWithin n t first width count = every (λ i. within n (viewFrom t (first + width * i))) count
 
 -- .. of all used profiles
 abbrev pub profilesWithin : ℕ → List ℕ → Bool

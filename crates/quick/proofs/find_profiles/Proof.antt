@@ -9,12 +9,12 @@ use Rattle.reference.specs.Tables.{tapsIn, namesIn, extrasIn, bodyView}
 use Rattle.table.specs.Flat.{bodyOfTable}
 use Rattle.table.proofs.Entries.{profileOfTable}
 use Rattle.exact.specs.Exact.{every, profileExact, profilesExact}
+use Rattle.exact.proofs.Every.{every-next}
 use Rattle.measuring.specs.ByTable.{entrySize, usedIn}
 use Rattle.measuring.proofs.Going.{Summing, sum-begin, sum-turn, sum-end}
 use Rattle.measuring.proofs.Tables.{profiles-listed}
 use Rattle.quick.specs.Marks.{holds, within}
 use Rattle.quick.proofs.Marks.{or-more}
-use Rattle.quick.proofs.Upto.{every-next}
 use Rattle.quick.proofs.find_profiles.Statement.{statement}
 use Rattle.quick.proofs.find_profiles.Tie as tie
 

@@ -8,9 +8,10 @@ use lib.Dec.{leb}
 use lib.ListN.{getD}
 use Rattle.octets.specs.Octets.{part}
 use Rattle.exact.specs.Exact.{every, tapExact, tapsExact}
+use Rattle.exact.proofs.Every.{every-next}
 use Rattle.quick.specs.Marks.{total, holds, lengthsOf, allWithin}
 use Rattle.quick.proofs.Marks.{or-more}
-use Rattle.quick.proofs.Upto.{every-next, total-next}
+use Rattle.quick.proofs.Upto.{total-next}
 use Rattle.quick.proofs.find_taps.Statement.{statement}
 use Rattle.quick.proofs.find_taps.Tie as tie
 

@@ -5,9 +5,10 @@ use native.Mathlib.Omega.{arith}
 use lib.ListN.{getD}
 use lib.Dec.{leb}
 use Rattle.exact.specs.Exact.{every}
+use Rattle.exact.proofs.Every.{every-next}
 use Rattle.quick.specs.Marks.{total, holds, lengthsOf, allWithin}
 use Rattle.quick.proofs.Marks.{or-more}
-use Rattle.quick.proofs.Upto.{every-next, total-next, room}
+use Rattle.quick.proofs.Upto.{total-next, room}
 use Rattle.quick.proofs.find_views.Statement.{statement}
 use Rattle.quick.proofs.find_views.Tie as tie
 
