@@ -1,3 +1,5 @@
 pub mod Every
 pub mod Sorts
 pub mod Uncut
+pub mod Read
+pub mod Alike

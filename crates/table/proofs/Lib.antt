@@ -3,3 +3,6 @@ pub mod Stored
 pub mod Filed
 pub mod Chunks
 pub mod Entries
+pub mod Lent
+pub mod Typed
+pub mod Alike

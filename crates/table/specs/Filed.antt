@@ -1,8 +1,9 @@
 -- What stands in a lent table after a reading: the entries of some profiles, behind those that stood there, and the six numbers at the front.
 -- What stands behind the entries is kept. Assumes nothing.
 use Prim.Native.Nat.{ℕ, _+_}
-use mathlib.Core.List.{List, [], _∷_}
-use lib.ListN.{length}
+use mathlib.Core.Path.{_≡_}
+use mathlib.Core.List.{List, [], _∷_, _++_, map}
+use lib.ListN.{length, take, drop, getD}
 use Rattle.octets.specs.Octets.{splice}
 use Rattle.reference.specs.declared.Tap.{Tap}
 use Rattle.reference.specs.declared.NameComponent.{NameComponent}
@@ -10,10 +11,10 @@ use Rattle.reference.specs.declared.LiteComponent.{LiteComponent}
 use Rattle.reference.specs.declared.TaggedProfile.{TaggedProfile}
 use Rattle.reference.specs.Meaning.{Profile, Reference, tapsOf, namesOf, extrasOf, total}
 use Rattle.reference.specs.Layout.{layoutProfile}
-use Rattle.reference.specs.Tables.{placed, gathered, bodyAt, tapsAt, namesAt, extrasAt, view}
+use Rattle.reference.specs.Tables.{Used, placed, gathered, bodyAt, tapsAt, namesAt, extrasAt, view}
 use Rattle.table.specs.declared.Counts.{Counts}
-use Rattle.table.specs.Region.{stored}
-use Rattle.table.specs.Flat.{profileRegion, tapRegion, nameRegion, extraRegion, frontNumbers}
+use Rattle.table.specs.Region.{stored, rows}
+use Rattle.table.specs.Flat.{profileRegion, tapRegion, nameRegion, extraRegion, bodyNumbers, tapNumbers, nameNumbers, extraNumbers, frontNumbers}
 
 -- entries of all sorts, of which the first profile is profile i, stored in the order of the regions
 abbrev pub filed : List ℕ → ℕ → Counts → List TaggedProfile → List Tap → List NameComponent → List LiteComponent → List ℕ
@@ -39,3 +40,20 @@ abbrev pub referenceFiled : List ℕ → Reference → List ℕ
 referenceFiled t m =
     splice (profilesFiled (length (m .typeId) + 8) t 0 noCounts (m .profiles)) 0
     (frontNumbers (view 4 (m .typeId)) (length (m .profiles)) (total tapsOf (m .profiles)) (total namesOf (m .profiles)) (total extrasOf (m .profiles)))
+
+-- Of a table that held t, into which the entries u were filed, and that then held e: the six numbers at the front are the type id's view and how many
+-- entries there are of each sort; the first entries of each region have the numbers of u's; and every other entry has the numbers that it had before.
+pub record Files (t e : List ℕ) (u : Used) : Type 0 where
+  pub front : take 6 e ≡ frontNumbers (u .typeId) (length (u .profiles)) (length (u .taps)) (length (u .names)) (length (u .extras))
+  pub profiles : rows profileRegion e ≡ map (λ p. bodyNumbers (p .body)) (u .profiles) ++ drop (length (u .profiles)) (rows profileRegion t)
+  pub taps : rows tapRegion e ≡ map tapNumbers (u .taps) ++ drop (length (u .taps)) (rows tapRegion t)
+  pub names : rows nameRegion e ≡ map nameNumbers (u .names) ++ drop (length (u .names)) (rows nameRegion t)
+  pub extras : rows extraRegion e ≡ map extraNumbers (u .extras) ++ drop (length (u .extras)) (rows extraRegion t)
+
+-- Two tables with the same six numbers at the front, and the same numbers in their used entries.
+pub record SameEntries (t t′ : List ℕ) : Type 0 where
+  pub front : take 6 t ≡ take 6 t′
+  pub profiles : take (getD t 2 0) (rows profileRegion t) ≡ take (getD t 2 0) (rows profileRegion t′)
+  pub taps : take (getD t 3 0) (rows tapRegion t) ≡ take (getD t 3 0) (rows tapRegion t′)
+  pub names : take (getD t 4 0) (rows nameRegion t) ≡ take (getD t 4 0) (rows nameRegion t′)
+  pub extras : take (getD t 5 0) (rows extraRegion t) ≡ take (getD t 5 0) (rows extraRegion t′)
