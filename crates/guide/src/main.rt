@@ -1,4 +1,4 @@
-// The guide's program: reads a reference, looks at its tables, asks the questions, and writes it anew.
+// The guide's program: reads a reference, looks at its tables, asks the questions, and writes it anew; and the same by a table that it lends.
 use libc::STDOUT_FILENO;
 use questions::FirstBiop;
 use questions::ObjectKind;
@@ -19,6 +19,10 @@ fn say_number(text: &[u8], n: u64) {
 }
 
 fn wide(x: u8) -> u64 {
+    x as u64
+}
+
+fn long(x: u32) -> u64 {
     x as u64
 }
 
@@ -104,12 +108,36 @@ fn read_and_say(s: &[u8]) {
     }
 }
 
+fn say_answer(text: &[u8], answer: Answer) {
+    say(text);
+    match answer {
+        Answer::Count(n) => say_number(b" ", n as u64),
+        Answer::Refused(r) => say_number(b" refusal ", wide(r.number)),
+    }
+}
+
+// The same by a table that the caller lends, whatever it held before: number 8 is the module of the first profile. A module that is wider
+// than its two octets is refused, and not cut: 65578 would be written as 42.
+fn lend_a_table(s: &[u8]) {
+    let mut table = [0xA5A5A5A5u32; 490];
+    let mut out = [0u8; 64];
+    say_answer(b"lent: read", ior::read_whole_into(s, &mut table));
+    say_number(b"lent: module ", long(table[8]));
+    say_answer(b"lent: written", ior::write_from(&table, s, &mut out));
+    table[8] = 65578;
+    say_answer(b"lent, too wide: length", ior::length_from(&table, s));
+    say_answer(b"lent, too wide: written", ior::write_from(&table, s, &mut out));
+}
+
 // A service gateway's reference with one BIOP profile, whose key has two octets.
 fn main() {
     read_and_say(
         b"\x00\x00\x00\x04\x73\x72\x67\x00\x00\x00\x00\x01\x49\x53\x4F\x06\x00\x00\x00\x18\x00\x02\x49\x53\x4F\x50\x0B\x00\x00\x00\x07\x00\x2A\x01\x00\x02\xC0\xDE\x49\x53\x4F\x40\x01\x00",
     );
     say_kind(b"srg\x00");
+    lend_a_table(
+        b"\x00\x00\x00\x04\x73\x72\x67\x00\x00\x00\x00\x01\x49\x53\x4F\x06\x00\x00\x00\x18\x00\x02\x49\x53\x4F\x50\x0B\x00\x00\x00\x07\x00\x2A\x01\x00\x02\xC0\xDE\x49\x53\x4F\x40\x01\x00",
+    );
     // The same, cut in the middle of its profile: a header that lies is refused, with the place and the figures.
     read_and_say(
         b"\x00\x00\x00\x04\x73\x72\x67\x00\x00\x00\x00\x01\x49\x53\x4F\x06\x00\x00\x00\x18\x00\x02\x49\x53\x4F\x50\x0B\x00\x00\x00",

@@ -1,12 +1,13 @@
 -- The promises, over what the face's contracts say. `s` are the octets of the caller's slice, `t` the caller's tables, `d` the output before the call and
 -- `e` after it, `r` what the call answered: each theorem begins with the very clause of the call's contract. That a slice of u8 holds octets (`Octets`)
--- and that tables keep to their types (`Typed`) is what the language gives a caller; nothing else is asked. Assumes nothing.
+-- and that tables keep to their types (`Typed`) is what the language gives a caller; nothing else is asked. The promises of the calls on a lent table stand
+-- in `Lent`. Assumes nothing.
 use Prim.Native.Nat.{ℕ, _≤_}
 use mathlib.Core.Path.{_≡_, sym, ap, _∙_, subst}
 use mathlib.Core.Bool.{Bool}
-use mathlib.Core.List.{List, map}
+use mathlib.Core.List.{List, [], _∷_, map}
 use mathlib.Core.Logic.{_↔_}
-use lib.ListN.{length}
+use lib.ListN.{length, take}
 use Rattle.octets.specs.Octets.{Octets, Each}
 use Rattle.reference.specs.declared.Answer.{Answer as Told}
 use Rattle.reference.specs.declared.Answer.the-variants.{Count, Refused}
@@ -17,18 +18,17 @@ use Rattle.reference.specs.Meaning.{Reference}
 use Rattle.reference.specs.Layout.{Leads}
 use Rattle.reference.specs.Reader.{readLeading, readWhole, seen}
 use Rattle.reference.specs.Tables.{tablesOf, tabled, noTables, usedOf, Typed, Unknown}
-use Rattle.reference.specs.Writer.{answered, imageOf, measured}
-use Rattle.reference.specs.Promises.{ShowsFields, GivesBack, ReadsBack, PutInFront, LengthIsWritten, SameUsed}
+use Rattle.reference.specs.Writer.{answered, imageOf, measured, written, leaves}
+use Rattle.reference.specs.Promises.{taking, ShowsFields, GivesBack, ReadsBack, PutInFront, LengthIsWritten, SameUsed}
 use Rattle.reference.specs.Worked as Table
 use Rattle.reference.proofs.Promised as promised
-use Rattle.reference.proofs.Written as written
+use Rattle.reference.proofs.Written as writtenly
 use Rattle.reference.proofs.Measured as measuredly
 use Rattle.reference.proofs.Worked as worked-out
 use Rattle.writing.specs.Writes.{Writes}
 use Rattle.reference.specs.declared.NameComponent.{NameComponent}
 use Rattle.reference.specs.Questions.{kindOf, tapNumbersOf, firstBiop, dvbAddress}
 use Rattle.reference.specs.Names.{readShortName, shortAt}
-use Rattle.reading.specs.Into.{ReadInto}
 use Rattle.reading.proofs.Determined as reading
 use Rattle.writing.proofs.Determined as writing
 use Rattle.questions.specs.declared.ObjectKind.{ObjectKind}
@@ -40,10 +40,6 @@ use Rattle.names.specs.declared.ShortNameRead.{ShortNameRead}
 use Rattle.names.specs.Told.{shortTold}
 use Rattle.names.specs.Writes as Short
 use Rattle.names.proofs.Promises as names
-
--- the reading that accepts n octets with the tables t
-abbrev pub taking : ℕ → Tables → Reading
-taking n t = record { answer = Count n; tables = t }
 
 module _ (s : List ℕ) (o : Octets s) where
   -- DEMAND 3. A slice of up to 65,535 octets is accepted by the leading reading with n octets and the tables t exactly when its first n octets are the
@@ -61,6 +57,10 @@ module _ (s : List ℕ) (o : Octets s) where
       let h = promised.accepts-whole-exactly s o small n t in
       (λ e. h .0 (sym c ∙ e), λ w. c ∙ h .1 w)
 
+  -- What the whole reading accepts, the leading reading accepts with the same answer and tables: what is promised of one holds of the other.
+  pub whole-is-leading : (r : Reading) → r ≡ answered (readWhole s) → (n : ℕ) → r .answer ≡ Count n → (r ≡ answered (readLeading s)) × (n ≡ length s)
+  whole-is-leading r c n e = let (h, q) = promised.whole-is-leading s o n (sym (ap (λ (x : Reading). x .answer) c) ∙ e) in (c ∙ h, q)
+
   -- Part and meaning are unique: an invented consumed count or a second reading of the same octets is shut out.
   pub one-part-one-meaning : (m m′ : Reference) (n n′ : ℕ) → Leads s m n → Leads s m′ n′ → (m ≡ m′) × (n ≡ n′)
   one-part-one-meaning m m′ n n′ l l′ = promised.one-part-one-meaning s o m m′ n n′ l l′
@@ -75,11 +75,12 @@ module _ (s : List ℕ) (o : Octets s) where
 
   -- Writing the tables of an accepted reading over the same octets into any output with room answers the part's length and gives the part back: at every index
   -- but the seven constants of each address the octets are equal, and behind the part the output is as before (`GivesBack`).
-  pub write-gives-back : (r : Reading) → r ≡ answered (readLeading s) → (n : ℕ) → r .answer ≡ Count n → (d : List ℕ) → n ≤ length d
-      → (m : Reference) × (Leads s m n) × (GivesBack s m (r .tables) n d)
-  write-gives-back r c n e d room =
-      let (m, l, g) = promised.write-gives-back s o n (sym (ap (λ (x : Reading). x .answer) c) ∙ e) d room in
-      (m, l, subst (λ (x : Reading). GivesBack s m (x .tables) n d) (sym c) g)
+  pub write-gives-back : (r : Reading) → r ≡ answered (readLeading s) → (n : ℕ) → r .answer ≡ Count n
+      → (d : List ℕ) (w : Told) (e : List ℕ) → Writes (r .tables) s d w e → n ≤ length d → (m : Reference) × (Leads s m n) × (w ≡ Count n) × (GivesBack s m n d e)
+  write-gives-back r c n h d w e x room =
+      let q = ap (λ (y : Reading). y .tables) c in
+      let (m, l, a, g) = promised.write-gives-back s o n (sym (ap (λ (y : Reading). y .answer) c) ∙ h) d room in
+      (m, l, x .answers ∙ ap (λ (y : Tables). written y s d) q ∙ a, subst (λ (y : List ℕ). GivesBack s m n d y) (sym (x .leaves ∙ ap (λ (y : Tables). leaves y s d) q)) g)
 
 -- DEMAND 1, first half: a refused reading gives the empty tables.
 pub refused-reading-is-empty : (s : List ℕ) (r : Reading) → r ≡ answered (readLeading s) → (x : Refusal) → r .answer ≡ Refused x → r .tables ≡ noTables
@@ -96,27 +97,32 @@ module _ (t : Tables) (s d : List ℕ) (r : Told) (e : List ℕ) (w : Writes t s
   refused-writing-leaves-all x h = w .leaves ∙ measuredly.refused-writing-leaves-all t s d x (sym (w .answers) ∙ h)
 
   -- An accepted one puts the image at the front, as long as it answers, and leaves the octets behind it.
-  pub accepted-writing-puts : (n : ℕ) → r ≡ Count n → PutInFront t s d n
-  accepted-writing-puts n h = measuredly.accepted-writing-puts t s d n (sym (w .answers) ∙ h)
+  pub accepted-writing-puts : (n : ℕ) → r ≡ Count n → PutInFront (imageOf s t) d n e
+  accepted-writing-puts n h = subst (PutInFront (imageOf s t) d n) (sym (w .leaves)) (measuredly.accepted-writing-puts t s d n (sym (w .answers) ∙ h))
 
   -- DEMAND 3, the other way: tables that the writer accepts, with no opaque profile under a known tag, are read back from the output itself with equal contents.
   pub written-reads-back : Octets s → Octets d → length d ≤ 65535 → Typed t → Each Unknown (usedOf t .profiles) → (n : ℕ) → r ≡ Count n
-      → ReadsBack t s n e (answered (readLeading e))
-  written-reads-back o od small y u n h =
-      subst (λ (x : List ℕ). ReadsBack t s n x (answered (readLeading x))) (sym (w .leaves)) (written.output-reads-back t s d o od small y u n (sym (w .answers) ∙ h))
+      → (q : Reading) → q ≡ answered (readLeading e) → ReadsBack t s n e q
+  written-reads-back o od small y u n h q c =
+      subst (ReadsBack t s n e) (sym c)
+      (subst (λ (x : List ℕ). ReadsBack t s n x (answered (readLeading x))) (sym (w .leaves)) (writtenly.output-reads-back t s d o od small y u n (sym (w .answers) ∙ h)))
 
--- What the writer accepts, its image as a whole slice reads back as well.
-pub image-reads-back : (t : Tables) (s d : List ℕ) (r : Told) (e : List ℕ) → Writes t s d r e → Octets s → Typed t → Each Unknown (usedOf t .profiles) → (n : ℕ) → r ≡ Count n
-    → ReadsBack t s n (imageOf s t) (answered (readWhole (imageOf s t)))
-image-reads-back t s d r e w o y u n h = written.written-reads-whole t s d o y u n (sym (w .answers) ∙ h)
+  -- The n octets that were written, read as a whole slice, say the same, whatever the output's length.
+  pub image-reads-back : Octets s → Typed t → Each Unknown (usedOf t .profiles) → (n : ℕ) → r ≡ Count n → (q : Reading) → q ≡ answered (readWhole (take n e)) → ReadsBack t s n (take n e) q
+  image-reads-back o y u n h q c =
+      subst (ReadsBack t s n (take n e)) (sym c)
+      (subst (λ (x : List ℕ). ReadsBack t s n x (answered (readWhole x))) (sym (accepted-writing-puts n h .front))
+      (writtenly.written-reads-whole t s d o y u n (sym (w .answers) ∙ h)))
 
--- The octets of an accepted image are octets.
-pub image-octets : (t : Tables) (s d : List ℕ) (r : Told) (e : List ℕ) → Writes t s d r e → Octets s → Typed t → (n : ℕ) → r ≡ Count n → Octets (imageOf s t)
-image-octets t s d r e w o y n h = written.image-octets t s d o y n (sym (w .answers) ∙ h)
+  -- The octets of an accepted image are octets.
+  pub image-octets : Octets s → Typed t → (n : ℕ) → r ≡ Count n → Octets (imageOf s t)
+  image-octets o y n h = writtenly.image-octets t s d o y n (sym (w .answers) ∙ h)
 
--- The measured length is the image's and the length written, and measuring is refused with 6, 8, 9 or 10 exactly as writing is.
-pub length-is-written : (t : Tables) (s d : List ℕ) → LengthIsWritten t s d
-length-is-written t s d = measuredly.length-is-written t s d
+  -- The measured length q is the image's and the length written, and measuring is refused with 6, 8, 9 or 10 exactly as writing is.
+  pub length-is-written : (q : Told) → q ≡ measured t s → LengthIsWritten (6 ∷ 8 ∷ 9 ∷ 10 ∷ []) (imageOf s t) q r
+  length-is-written q h =
+      subst (λ (x : Told). LengthIsWritten (6 ∷ 8 ∷ 9 ∷ 10 ∷ []) (imageOf s t) x r) (sym h)
+      (subst (LengthIsWritten (6 ∷ 8 ∷ 9 ∷ 10 ∷ []) (imageOf s t) (measured t s)) (sym (w .answers)) (measuredly.length-is-written t s d))
 
 -- Only used entries are looked at: tables that agree in used counts and used entries are measured and written alike.
 pub only-used-matter : (t t′ : Tables) → SameUsed t t′ → (s d : List ℕ) (r r′ : Told) (e e′ : List ℕ) → Writes t s d r e → Writes t′ s d r′ e′
@@ -129,8 +135,8 @@ only-used-matter t t′ h s d r r′ e e′ w w′ =
 pub worked : map (λ q. Table.reply (q .0)) Table.cases ≡ map (λ q. q .1) Table.cases
 worked = worked-out.worked
 
--- ---- `determined`: each public call's contract determines the answer, and the output or the table too. Any two that it allows are equal; where a lower
--- crate has shown it, its theorem is cited.
+-- ---- `determined`: each public call's contract determines the answer, and the output too. Any two that it allows are equal; where a lower crate has
+-- shown it, its theorem is cited.
 
 pub determined-read-leading : (s : List ℕ) (r r′ : Reading) → r ≡ answered (readLeading s) → r′ ≡ answered (readLeading s) → r ≡ r′
 determined-read-leading s r r′ p q = reading.leading-determined s p q
@@ -138,17 +144,9 @@ determined-read-leading s r r′ p q = reading.leading-determined s p q
 pub determined-read-whole : (s : List ℕ) (r r′ : Reading) → r ≡ answered (readWhole s) → r′ ≡ answered (readWhole s) → r ≡ r′
 determined-read-whole s r r′ p q = reading.whole-determined s p q
 
-pub determined-read-leading-into : (s t e e′ : List ℕ) (r r′ : Told) → ReadInto (readLeading s) t e r → ReadInto (readLeading s) t e′ r′ → (r ≡ r′) × (e ≡ e′)
-determined-read-leading-into s t e e′ r r′ p q = reading.leading-into-determined s t p q
-
-pub determined-read-whole-into : (s t e e′ : List ℕ) (r r′ : Told) → ReadInto (readWhole s) t e r → ReadInto (readWhole s) t e′ r′ → (r ≡ r′) × (e ≡ e′)
-determined-read-whole-into s t e e′ r r′ p q = reading.whole-into-determined s t p q
-
--- of both measurings
 pub determined-image-length : (t : Tables) (s : List ℕ) (r r′ : Told) → r ≡ measured t s → r′ ≡ measured t s → r ≡ r′
 determined-image-length t s r r′ p q = writing.length-determined t s p q
 
--- of both writings
 pub determined-write : (t : Tables) (s d : List ℕ) (r r′ : Told) (e e′ : List ℕ) → Writes t s d r e → Writes t s d r′ e′ → (r ≡ r′) × (e ≡ e′)
 determined-write t s d r r′ e e′ p q = writing.write-determined p q
 

@@ -6,12 +6,13 @@ ghost use Rattle.reference.specs.Reader.{seen, readLeading, readWhole};
 ghost use Rattle.reference.specs.Writer.{answered, measured};
 ghost use Rattle.reference.specs.Questions.{kindOf, tapNumbersOf, firstBiop, dvbAddress};
 ghost use Rattle.reference.specs.Names.{readShortName, shortAt};
-ghost use Rattle.table.specs.Flat.{tablesFrom};
 ghost use Rattle.reading.specs.Into.{ReadInto};
 ghost use Rattle.writing.specs.Writes.{Writes};
 ghost use Rattle.questions.specs.Told.{kindTold, numbersTold, firstTold};
 ghost use Rattle.names.specs.Told.{shortTold};
 ghost use Rattle.names.specs.Writes as Short;
+ghost use Rattle.ior.specs.Lent.{measuredFrom, WritesFrom};
+use exact::is_exact;
 use names::ShortNameRead;
 use questions::FirstBiop;
 use questions::ObjectKind;
@@ -20,9 +21,13 @@ use reference::Answer;
 use reference::NameComponent;
 use reference::Reading;
 use reference::Tables;
+use reference::wrong;
 
 // A table of 490 numbers; crate table says which number is what.
 pub type FlatTable = [u32; 490];
+
+// The number that measuring and writing refuse a lent table with in which a number would be cut.
+pub const NOT_EXACT: u8 = 255;
 
 // An address's octets, handed over by value.
 pub type AddressOctets = [u8; 20];
@@ -75,17 +80,24 @@ pub fn write(t: Tables, src: &[u8], out: &mut [u8]) -> Answer
     writing::write(t, src, out)
 }
 
-// The same from a table of 490 numbers that the caller lends. A number wider than its field counts by its low bits.
+// The same from a table of 490 numbers that the caller lends. No number is cut: where a used entry holds one that is wider than its field,
+// or a sort that is unknown, the table is refused with 255 before all else, and no octet is changed.
 pub fn length_from(table: &FlatTable, src: &[u8]) -> Answer
-    ensures { λ r. ⌜ r ≡ measured (tablesFrom (now (table .entry))) (now (src .entry)) ⌝ }
+    ensures { λ r. ⌜ r ≡ measuredFrom (now (table .entry)) (now (src .entry)) ⌝ }
 {
-    measuring::length_from(table, src)
+    if is_exact(table) {
+        return measuring::length_from(table, src);
+    }
+    Answer::Refused(wrong(NOT_EXACT, 0))
 }
 
 pub fn write_from(table: &FlatTable, src: &[u8], out: &mut [u8]) -> Answer
-    ensures { λ r. ⌜ Writes (tablesFrom (now (table .entry))) (now (src .entry)) (now (out .entry)) r (now (out .exit)) ⌝ }
+    ensures { λ r. ⌜ WritesFrom (now (table .entry)) (now (src .entry)) (now (out .entry)) r (now (out .exit)) ⌝ }
 {
-    writing::write_from(table, src, out)
+    if is_exact(table) {
+        return writing::write_from(table, src, out);
+    }
+    Answer::Refused(wrong(NOT_EXACT, 0))
 }
 
 // ---- questions

@@ -1,19 +1,17 @@
 -- The reading by value is the reading into a table of zeros. Assumes nothing.
-use Prim.Native.Nat.{ℕ, _≤_}
+use Prim.Native.Nat.{ℕ}
 use mathlib.Core.Path.{_≡_, refl, ap, _∙_}
 use mathlib.Core.List.{List}
-use lib.Dec.{ltb, nltb→le}
-use lib.ListN.{length, replicate}
+use lib.ListN.{replicate}
 use Rattle.octets.specs.Octets.{Octets}
 use Rattle.reference.specs.declared.Tables.{Tables}
 use Rattle.reference.specs.declared.Reading.{Reading}
 use Rattle.reference.specs.declared.Answer.{Answer as Told}
 use Rattle.reference.specs.Meaning.{Reference, Room}
 use Rattle.reference.specs.Layout.{WellFormed}
-use Rattle.reference.specs.Reader.{Answer, ok, refused, refusal, readLeading, readWhole}
+use Rattle.reference.specs.Reader.{Answer, ok, refused, readLeading, readWhole}
 use Rattle.reference.specs.Writer.{answered}
-use Rattle.reference.proofs.Laws.{guard-ok}
-use Rattle.reference.proofs.Accept.{only-accepted, whole}
+use Rattle.reference.proofs.Accept.{only-accepted, only-whole}
 use Rattle.table.specs.Flat.{tablesFrom}
 use Rattle.by_value.proofs.Accepted.{tables-read}
 use Rattle.by_value.proofs.Back.{tables-cleared}
@@ -24,12 +22,8 @@ use Rattle.reading.specs.Into.{tableLeft, ReadInto}
 pub leading-good : (d : List ℕ) → Octets d → (m : Reference) (n : ℕ) → readLeading d ≡ ok m n → (WellFormed m) × (Room m)
 leading-good d o m n e = let l = only-accepted d o m n e .1 in (l .formed, l .room)
 
-whole-small : (d : List ℕ) (m : Reference) (n : ℕ) → readWhole d ≡ ok m n → length d ≤ 65535
-unfolding readWhole
-whole-small d m n e = nltb→le 65535 (length d) (guard-ok (ltb 65535 (length d)) (refusal 6 0 (length d) 65535) _ e .0)
-
 pub whole-good : (d : List ℕ) → Octets d → (m : Reference) (n : ℕ) → readWhole d ≡ ok m n → (WellFormed m) × (Room m)
-whole-good d o m n e = let l = whole d o (whole-small d m n e) m n .0 e .0 in (l .formed, l .room)
+whole-good d o m n e = let l = only-whole d o m n e .1 in (l .formed, l .room)
 
 -- ---- the tables
 

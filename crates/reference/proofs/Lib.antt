@@ -14,6 +14,9 @@ pub mod Formed
 pub mod Saying
 pub mod Written
 pub mod Measured
+pub mod Cases
+pub mod Numbers
+pub mod Same
 pub mod Orders
 pub mod Sample
 pub mod Shows

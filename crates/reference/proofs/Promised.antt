@@ -15,25 +15,21 @@ use Rattle.reference.specs.Meaning.{Reference}
 use Rattle.reference.specs.Layout.{Leads}
 use Rattle.reference.specs.Reader.{Answer, ok, refused, readLeading, readWhole}
 use Rattle.reference.specs.Tables.{tablesOf, tabled, noTables}
-use Rattle.reference.specs.Writer.{answered}
-use Rattle.reference.specs.Promises.{ShowsFields, GivesBack}
-use Rattle.reference.proofs.Accept.{accepted, only-accepted, whole, unique}
+use Rattle.reference.specs.Writer.{answered, written, leaves}
+use Rattle.reference.specs.Promises.{taking, ShowsFields, GivesBack}
+use Rattle.reference.proofs.Accept.{accepted, only-accepted, whole, only-whole, whole-leads, unique}
 use Rattle.reference.proofs.Shows.{fields-shown}
 use Rattle.reference.proofs.Written.{part-given-back}
 
 -- ---- from a declared answer to the definition's
 
-counts : (a : Answer Reference) (n : ℕ) → answered a .answer ≡ Count n → (m : Reference) × (a ≡ ok m n)
+pub counts : (a : Answer Reference) (n : ℕ) → answered a .answer ≡ Count n → (m : Reference) × (a ≡ ok m n)
 counts (ok m k) n e = let q : k ≡ n = cc in (m, ap (λ (x : ℕ). ok m x) q)
 counts (refused x) n e = let z : _≡_ {A = ℕ} 0 1 = cc in absurd (omega arith)
 
-refuses : (a : Answer Reference) (x : Refusal) → answered a .answer ≡ Refused x → a ≡ refused x
+pub refuses : (a : Answer Reference) (x : Refusal) → answered a .answer ≡ Refused x → a ≡ refused x
 refuses (ok m k) x e = let z : _≡_ {A = ℕ} 0 1 = cc in absurd (omega arith)
 refuses (refused y) x e = let q : y ≡ x = cc in ap (λ (z : Refusal). refused z) q
-
--- the reading that accepts n octets with the tables t
-abbrev taking : ℕ → Tables → Reading
-taking n t = record { answer = Count n; tables = t }
 
 taken : (a : Answer Reference) (n : ℕ) (t : Tables) → answered a ≡ taking n t → (m : Reference) × (a ≡ ok m n) × (t ≡ tabled (tablesOf m))
 taken a n t e =
@@ -60,6 +56,12 @@ accepts-whole-exactly d o small n t = (
   λ h. takes (readWhole d) (h .0) n t (whole d o small (h .0) n .1 (h .1, h .2)) (h .3),
 )
 
+-- What the whole reading accepts, the leading reading accepts with the same count and tables.
+pub whole-is-leading : (d : List ℕ) → Octets d → (n : ℕ) → answered (readWhole d) .answer ≡ Count n → (answered (readWhole d) ≡ answered (readLeading d)) × (n ≡ length d)
+whole-is-leading d o n e =
+    let (m, q) = counts (readWhole d) n e in
+    (ap (λ (a : Answer Reference). answered a) (q ∙ sym (whole-leads d o m n q)), only-whole d o m n q .2)
+
 -- Part and meaning are unique.
 pub one-part-one-meaning : (d : List ℕ) → Octets d → (m m′ : Reference) (n n′ : ℕ) → Leads d m n → Leads d m′ n′ → (m ≡ m′) × (n ≡ n′)
 one-part-one-meaning d o m m′ n n′ l l′ = unique d o m m′ n n′ l l′
@@ -82,7 +84,10 @@ refused-whole-is-empty d x e = ap (λ (a : Answer Reference). answered a .tables
 -- Writing the tables of an accepted reading over the same octets into any output with room answers the part's length and leaves the part, save an
 -- address's constants: octet by octet.
 pub write-gives-back : (d : List ℕ) → Octets d → (n : ℕ) → answered (readLeading d) .answer ≡ Count n → (out : List ℕ) → n ≤ length out
-    → (m : Reference) × (Leads d m n) × (GivesBack d m (answered (readLeading d) .tables) n out)
+    → (m : Reference) × (Leads d m n) × (written (answered (readLeading d) .tables) d out ≡ Count n) × (GivesBack d m n out (leaves (answered (readLeading d) .tables) d out))
 write-gives-back d o n e out room =
     let (m, q) = counts (readLeading d) n e in
-    (m, only-accepted d o m n q .1, subst (λ (a : Answer Reference). GivesBack d m (answered a .tables) n out) (sym q) (part-given-back d o m n q out room))
+    let (a, g) =
+    subst (λ (x : Answer Reference). (written (answered x .tables) d out ≡ Count n) × (GivesBack d m n out (leaves (answered x .tables) d out))) (sym q)
+    (part-given-back d o m n q out room) in
+    (m, only-accepted d o m n q .1, a, g)

@@ -2,17 +2,22 @@
 -- against writing (document 01, "Tables" and the three demands). The theorems stand in proofs/. Assumes nothing.
 use Prim.Native.Nat.{ℕ, _-_, _<_, _≤_}
 use mathlib.Core.Path.{_≡_}
-use mathlib.Core.List.{List, [], _∷_}
+use mathlib.Core.List.{List}
 use lib.ListN.{length, take, drop, getD, replicate}
 use Rattle.octets.specs.Octets.{Each}
 use Rattle.reference.specs.declared.Refusal.{Refusal}
 use Rattle.reference.specs.declared.Tables.{Tables}
 use Rattle.reference.specs.declared.Reading.{Reading}
+use Rattle.reference.specs.declared.Answer.{Answer as Told}
 use Rattle.reference.specs.declared.Answer.the-variants.{Count, Refused}
 use Rattle.reference.specs.Meaning.{Reference}
 use Rattle.reference.specs.Tables.{tapsIn, namesIn, extrasIn, contents, tablesOf, canon, standardOf, Free, Standard, noProfile, noTap, noName, noExtra, usedOf, Typed, said}
 use Rattle.reference.specs.Checks.{Among}
 use Rattle.reference.specs.Writer.{counted, imageOf, measured, written, leaves}
+
+-- the reading that accepts n octets with the tables t
+abbrev pub taking : ℕ → Tables → Reading
+taking n t = record { answer = Count n; tables = t }
 
 -- Each used count is the number of used entries, and the sum of the profiles' counts.
 pub record Agrees (t : Tables) : Type 0 where
@@ -37,16 +42,15 @@ pub record ShowsFields (d : List ℕ) (m : Reference) (t : Tables) : Type 0 wher
   pub noNames : drop (t .«names_used») (t .names) ≡ replicate (32 - t .«names_used») noName
   pub noExtras : drop (t .«extras_used») (t .extras) ≡ replicate (32 - t .«extras_used») noExtra
 
--- Writing the tables of an accepted reading over the same octets, into any output with room: the answer is the part's length; at every index
--- before it that is not one of an address's constants the octet is the one that was read; where the constants are standard the part is back
+-- Writing the tables of an accepted reading of d that says m, over d itself, into an output that held out and has room, left e: at every index before the
+-- part's length n that is not one of an address's constants the octet is the one that was read; where the constants are standard the part is back
 -- whole; behind the part the output is as before.
-pub record GivesBack (d : List ℕ) (m : Reference) (t : Tables) (n : ℕ) (out : List ℕ) : Type 0 where
-  pub answers : written t d out ≡ Count n
-  pub keeps : (i : ℕ) → i < n → Free i (standardOf m) → getD (leaves t d out) i 0 ≡ getD d i 0
-  pub constants : Each (λ q. getD (leaves t d out) (q .0) 0 ≡ q .1) (standardOf m)
-  pub whole : Each Standard (m .profiles) → take n (leaves t d out) ≡ take n d
-  pub behind : drop n (leaves t d out) ≡ drop n out
-  pub long : length (leaves t d out) ≡ length out
+pub record GivesBack (d : List ℕ) (m : Reference) (n : ℕ) (out e : List ℕ) : Type 0 where
+  pub keeps : (i : ℕ) → i < n → Free i (standardOf m) → getD e i 0 ≡ getD d i 0
+  pub constants : Each (λ q. getD e (q .0) 0 ≡ q .1) (standardOf m)
+  pub whole : Each Standard (m .profiles) → take n e ≡ take n d
+  pub behind : drop n e ≡ drop n out
+  pub long : length e ≡ length out
 
 -- Reading x answers n, and its tables say over x what t says over s: as document 01 lists contents, and profile by profile.
 pub record ReadsBack (t : Tables) (s : List ℕ) (n : ℕ) (x : List ℕ) (r : Reading) : Type 0 where
@@ -54,20 +58,20 @@ pub record ReadsBack (t : Tables) (s : List ℕ) (n : ℕ) (x : List ℕ) (r : R
   pub says : said x (r .tables) ≡ said s t
   pub means : contents x (usedOf (r .tables)) ≡ contents s (usedOf t)
 
--- An accepted writing puts the image at the front, and leaves the octets behind it.
-pub record PutInFront (t : Tables) (s d : List ℕ) (n : ℕ) : Type 0 where
-  pub size : length (imageOf s t) ≡ n
+-- An accepted writing, which answers n, puts the image at the front of an output that held d, and leaves the octets behind it: then it holds e.
+pub record PutInFront (image d : List ℕ) (n : ℕ) (e : List ℕ) : Type 0 where
+  pub size : length image ≡ n
   pub room : n ≤ length d
-  pub front : take n (leaves t s d) ≡ imageOf s t
-  pub behind : drop n (leaves t s d) ≡ drop n d
-  pub long : length (leaves t s d) ≡ length d
+  pub front : take n e ≡ image
+  pub behind : drop n e ≡ drop n d
+  pub long : length e ≡ length d
 
--- Measuring and writing: one length, the image's; and 6, 8, 9 and 10 alike.
-pub record LengthIsWritten (t : Tables) (s d : List ℕ) : Type 0 where
-  pub image : (n : ℕ) → measured t s ≡ Count n → (length (imageOf s t) ≡ n) × (n ≤ 65535)
-  pub length : (n : ℕ) → written t s d ≡ Count n → measured t s ≡ Count n
-  pub refused : (r : Refusal) → measured t s ≡ Refused r → (written t s d ≡ Refused r) × (Among (r .number) (6 ∷ 8 ∷ 9 ∷ 10 ∷ []))
-  pub early : (r : Refusal) → written t s d ≡ Refused r → Among (r .number) (6 ∷ 8 ∷ 9 ∷ 10 ∷ []) → measured t s ≡ Refused r
+-- Measuring answers q, and writing r: one length, that of the image l; and refusals with one of these numbers alike.
+pub record LengthIsWritten (numbers l : List ℕ) (q r : Told) : Type 0 where
+  pub image : (n : ℕ) → q ≡ Count n → (length l ≡ n) × (n ≤ 65535)
+  pub length : (n : ℕ) → r ≡ Count n → q ≡ Count n
+  pub refused : (x : Refusal) → q ≡ Refused x → (r ≡ Refused x) × (Among (x .number) numbers)
+  pub early : (x : Refusal) → r ≡ Refused x → Among (x .number) numbers → q ≡ Refused x
 
 -- Two tables have the same used counts and the same used entries.
 pub record SameUsed (t t′ : Tables) : Type 0 where
