@@ -1,14 +1,17 @@
 -- What a call tells where it is asked as it must be, and where it is not; and what it means to be asked so. Assumes nothing.
 use Prim.Native.Nat.{ℕ, _<_, _≤_}
-use mathlib.Core.Path.{_≡_, sym, ap, _∙_}
+use mathlib.Core.Path.{_≡_, sym, ap, ap₂, _∙_}
 use mathlib.Core.Bool.{Bool, true, false, _&&_}
-use mathlib.Core.Logic.{_≢_}
+use mathlib.Core.Logic.{_≢_, _↔_}
 use mathlib.Core.List.{List}
+use native.Mathlib.Omega.{arith}
 use Rattle.reference.specs.declared.Answer.{Answer as Told}
-use Rattle.reference.specs.declared.Answer.the-variants.{Count}
+use Rattle.reference.specs.declared.Answer.the-variants.{Count, Refused}
+use Rattle.reference.specs.declared.Refusal.{Refusal}
 use Rattle.reference.specs.declared.Check.{Check}
 use Rattle.reference.specs.declared.Check.the-variants.{Pass}
 use Rattle.reference.specs.declared.Tables.{Tables}
+use Rattle.reference.specs.Reader.{pick}
 use Rattle.reference.specs.Tables.{usedOf}
 use Rattle.reference.specs.Writer.{sizeOf, measureCheck, measured}
 use Rattle.reference.specs.Writer as Writer
@@ -16,8 +19,11 @@ use lib.Dec.{eqb}
 use lib.ListN.{length}
 use borrow.Author.Tests.{eq-eqb, ne-eqb, eqb-true, le-leb, lt-leb}
 use Rattle.reference.proofs.Asked.{picks-first, picks-second}
+use Rattle.reference.proofs.Cases.{by-test, by-answer}
 use Rattle.exact.specs.Exact.{exact}
+use Rattle.exact.specs.Uncut.{Uncut}
 use Rattle.exact.proofs.Every.{and-left, and-right}
+use Rattle.exact.proofs.Uncut.{exact-exactly}
 use Rattle.ior_c.specs.Said.{numberOf, numbersOf, Tells, Gives, sized, askable, tapAsked}
 
 module _ {asked : Bool} {n : ℕ} {l a : List ℕ} where
@@ -39,6 +45,21 @@ module _ {asked : Bool} {x : Told} {y a d : List ℕ} where
   pub not-given : asked ≡ false → Gives asked x y a d 255 a d
   not-given t = record { tells = not-told t; leaves = sym (picks-second asked y d t) }
 
+-- what a call told and left, by whether it was asked
+module _ {asked : Bool} {n : ℕ} {l a : List ℕ} {r : ℕ} {b : List ℕ} (t : Tells asked n l a r b) where
+  pub asked-told : asked ≡ true → (r ≡ n) × (b ≡ l)
+  asked-told e = (t .result ∙ picks-first asked n 255 e, t .array ∙ picks-first asked l a e)
+
+  pub unasked-told : asked ≡ false → (r ≡ 255) × (b ≡ a)
+  unasked-told e = (t .result ∙ picks-second asked n 255 e, t .array ∙ picks-second asked l a e)
+
+module _ {asked : Bool} {x : Told} {y a d : List ℕ} {r : ℕ} {b e : List ℕ} (g : Gives asked x y a d r b e) where
+  pub asked-given : asked ≡ true → (r ≡ numberOf x) × (b ≡ numbersOf x) × (e ≡ y)
+  asked-given h = let (p, q) = asked-told (g .tells) h in (p, q, g .leaves ∙ picks-first asked y d h)
+
+  pub unasked-given : asked ≡ false → (r ≡ 255) × (b ≡ a) × (e ≡ d)
+  unasked-given h = let (p, q) = unasked-told (g .tells) h in (p, q, g .leaves ∙ picks-second asked y d h)
+
 -- the length, where measuring passes
 pub measured-passed : (t : Tables) (s : List ℕ) → measureCheck t (length s) ≡ Pass → measured t s ≡ Count (sizeOf (usedOf t))
 unfolding measured
@@ -46,13 +67,31 @@ measured-passed t s e = ap (λ (c : Check). Writer.told c (sizeOf (usedOf t))) e
 
 -- ---- whatever code meets these contracts gives the same result and leaves the same in its arrays
 
-pub tells-determined : (asked : Bool) (n : ℕ) (l a : List ℕ) (r r′ : ℕ) (b b′ : List ℕ) → Tells asked n l a r b → Tells asked n l a r′ b′ → (r ≡ r′) × (b ≡ b′)
-tells-determined asked n l a r r′ b b′ h h′ = (h .result ∙ sym (h′ .result), h .array ∙ sym (h′ .array))
+module _ {asked asked′ : Bool} {n n′ : ℕ} {l l′ a : List ℕ} {r r′ : ℕ} {b b′ : List ℕ} where
+  pub tells-alike : asked ≡ asked′ → n ≡ n′ → l ≡ l′ → Tells asked n l a r b → Tells asked′ n′ l′ a r′ b′ → (r ≡ r′) × (b ≡ b′)
+  tells-alike e p q h h′ = (
+    h .result ∙ ap₂ (λ (k : Bool) (x : ℕ). pick k x 255) e p ∙ sym (h′ .result),
+    h .array ∙ ap₂ (λ (k : Bool) (x : List ℕ). pick k x a) e q ∙ sym (h′ .array),
+  )
 
-pub gives-determined : (asked : Bool) (x : Told) (y a d : List ℕ) (r r′ : ℕ) (b b′ e e′ : List ℕ) → Gives asked x y a d r b e → Gives asked x y a d r′ b′ e′
-    → ((r ≡ r′) × (b ≡ b′)) × (e ≡ e′)
-gives-determined asked x y a d r r′ b b′ e e′ h h′ =
-    (tells-determined asked (numberOf x) (numbersOf x) a r r′ b b′ (h .tells) (h′ .tells), h .leaves ∙ sym (h′ .leaves))
+module _ {asked asked′ : Bool} {x x′ : Told} {y y′ a d : List ℕ} {r r′ : ℕ} {b b′ e e′ : List ℕ} where
+  pub gives-alike : asked ≡ asked′ → x ≡ x′ → y ≡ y′ → Gives asked x y a d r b e → Gives asked′ x′ y′ a d r′ b′ e′ → (r ≡ r′) × (b ≡ b′) × (e ≡ e′)
+  gives-alike k p q h h′ =
+      let (u, v) = tells-alike k (ap numberOf p) (ap numbersOf p) (h .tells) (h′ .tells) in
+      (u, v, h .leaves ∙ ap₂ (λ (i : Bool) (z : List ℕ). pick i z d) k q ∙ sym (h′ .leaves))
+
+-- 255 is told exactly where the call is not asked as it must be, since no refusal bears that number
+pub unasked-exactly : {asked : Bool} {x : Told} {l a : List ℕ} {r : ℕ} {b : List ℕ} → ((y : Refusal) → x ≡ Refused y → y .number ≤ 10) → Tells asked (numberOf x) l a r b
+    → (r ≡ 255) ↔ (asked ≡ false)
+unasked-exactly {asked} {x} {r = r} small t = (
+  λ z. by-test asked
+      (λ h.
+      let p = asked-told t h .0 in
+      by-answer x (λ n e. let q : r ≡ 0 = p ∙ ap numberOf e in absurd (omega arith))
+      (λ y e. let k = small y e in let q : r ≡ y .number = p ∙ ap numberOf e in absurd (omega arith)))
+      (λ h. h),
+  λ h. unasked-told t h .0,
+)
 
 -- ---- asked as it must be
 
@@ -64,6 +103,9 @@ module _ (n array answer : ℕ) where
   pub sized-by-answer : array ≡ n → sized n array answer ≡ eqb answer 5
   unfolding sized
   sized-by-answer e = ap (λ (b : Bool). b && eqb answer 5) (eq-eqb array n e)
+
+  pub is-sized : array ≡ n → answer ≡ 5 → sized n array answer ≡ true
+  is-sized e f = sized-by-answer e ∙ eq-eqb answer 5 f
 
   pub lengths : sized n array answer ≡ true → (array ≡ n) × (answer ≡ 5)
   unfolding sized
@@ -77,6 +119,15 @@ module _ (t : List ℕ) (answer : ℕ) where
   pub askable-by-table : sized 490 (length t) answer ≡ true → askable t answer ≡ exact t
   unfolding askable
   askable-by-table e = ap (λ (b : Bool). b && exact t) e
+
+  -- with arrays of the right lengths, exactly if no number of the table is cut
+  pub unaskable-exactly : length t ≡ 490 → answer ≡ 5 → (askable t answer ≡ false) ↔ (Uncut t → ⊥)
+  unaskable-exactly l f =
+      let e = exact-exactly t l in
+      let k = askable-by-table (is-sized 490 (length t) answer l f) in (
+        λ h u. let x = sym (e .1 u) ∙ sym k ∙ h in let z : _≡_ {A = ℕ} 0 1 = cc in omega arith,
+        λ never. k ∙ by-test {P = exact t ≡ false} (exact t) (λ x. absurd (never (e .0 x))) (λ x. x),
+      )
 
   pub askable-lengths : askable t answer ≡ true → (length t ≡ 490) × (answer ≡ 5)
   unfolding askable

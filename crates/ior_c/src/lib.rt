@@ -2,17 +2,12 @@
 // (include/ior.h). A table has 490 numbers (crate table), an answer five: number, place, both figures, and the count. An array of another length, or
 // a table with a number that is wider than its field, is answered with 255, and nothing is changed. No function asks anything of its caller.
 ghost use mathlib.Core.Path.{_≡_};
-ghost use mathlib.Core.List.{_∷_, []};
-ghost use lib.Dec.{eqb};
 ghost use lib.ListN.{length};
-ghost use Rattle.reference.specs.Questions.{kindOf, tapNumbersOf, firstBiop, dvbAddress};
-ghost use Rattle.reference.specs.Reader.{readLeading, readWhole, seen, pick};
-ghost use Rattle.reference.specs.Names.{readShortName, shortAt, shortWritten, shortLeaves};
-ghost use Rattle.reference.specs.Writer.{answered, measured, written, leaves};
+ghost use Rattle.reference.specs.Questions.{firstBiop};
 ghost use Rattle.table.specs.Flat.{tablesFrom, nameFrom, nameNumbers};
-ghost use Rattle.reading.specs.Into.{tableLeft};
 ghost use Rattle.questions.specs.Told.{kindTold, numbersTold};
-ghost use Rattle.ior_c.specs.Said.{numberOf, numbersOf, Tells, Gives, sized, askable, tapAsked, kindNumber, typeNumber, tapResult, tapPair, firstSaid, nameSaid, nameLeft, truth};
+ghost use Rattle.ior_c.specs.Calls.{IorRead, IorReadWhole, IorLength, IorWrite, IorKind, IorTap, IorFirstBiop, IorDvbAddress, IorNameRead, IorNameWrite};
+ghost use Rattle.ior_c.specs.Said.{numberOf, numbersOf, sized, askable, kindNumber, typeNumber, tapResult, tapPair, firstSaid};
 use entries::sort_at;
 use exact::is_exact;
 use measuring::length_from;
@@ -101,7 +96,7 @@ fn can_ask(table: &[u32], answer: usize) -> bool
 // fills, a refused one leaves zeros.
 #[no_mangle]
 pub extern "C" fn ior_read(s: &[u8], table: &mut [u32], answer: &mut [u64]) -> u32
-    ensures { λ r. ⌜ Gives (sized 490 (length (now (table .entry))) (length (now (answer .entry)))) (answered (readLeading (now (s .entry))) .answer) (tableLeft (readLeading (now (s .entry))) (now (table .entry))) (now (answer .entry)) (now (table .entry)) r (now (answer .exit)) (now (table .exit)) ⌝ }
+    ensures { λ r. ⌜ IorRead (now (s .entry)) (now (table .entry)) (now (answer .entry)) r (now (answer .exit)) (now (table .exit)) ⌝ }
 {
     if !is_sized(SIZE, table.len(), answer.len()) {
         return NOT_ASKED;
@@ -112,7 +107,7 @@ pub extern "C" fn ior_read(s: &[u8], table: &mut [u32], answer: &mut [u64]) -> u
 // The same of a whole slice: nothing may be left over.
 #[no_mangle]
 pub extern "C" fn ior_read_whole(s: &[u8], table: &mut [u32], answer: &mut [u64]) -> u32
-    ensures { λ r. ⌜ Gives (sized 490 (length (now (table .entry))) (length (now (answer .entry)))) (answered (readWhole (now (s .entry))) .answer) (tableLeft (readWhole (now (s .entry))) (now (table .entry))) (now (answer .entry)) (now (table .entry)) r (now (answer .exit)) (now (table .exit)) ⌝ }
+    ensures { λ r. ⌜ IorReadWhole (now (s .entry)) (now (table .entry)) (now (answer .entry)) r (now (answer .exit)) (now (table .exit)) ⌝ }
 {
     if !is_sized(SIZE, table.len(), answer.len()) {
         return NOT_ASKED;
@@ -122,7 +117,7 @@ pub extern "C" fn ior_read_whole(s: &[u8], table: &mut [u32], answer: &mut [u64]
 
 // The length of the image of the table over the source s, or what is wrong.
 fn tell_length(table: &[u32], s: &[u8], answer: &mut [u64]) -> u32
-    ensures { λ r. ⌜ Tells (askable (now (table .entry)) (length (now (answer .entry)))) (numberOf (measured (tablesFrom (now (table .entry))) (now (s .entry)))) (numbersOf (measured (tablesFrom (now (table .entry))) (now (s .entry)))) (now (answer .entry)) r (now (answer .exit)) ⌝ }
+    ensures { λ r. ⌜ IorLength (now (table .entry)) (now (s .entry)) (now (answer .entry)) r (now (answer .exit)) ⌝ }
 {
     if !can_ask(table, answer.len()) {
         return NOT_ASKED;
@@ -133,7 +128,7 @@ fn tell_length(table: &[u32], s: &[u8], answer: &mut [u64]) -> u32
 // The length of the image of the table over the source s; or 6, 8, 9 or 10. Where nothing is wrong, one pass over the table finds it.
 #[no_mangle]
 pub extern "C" fn ior_length(table: &[u32], s: &[u8], answer: &mut [u64]) -> u32
-    ensures { λ r. ⌜ Tells (askable (now (table .entry)) (length (now (answer .entry)))) (numberOf (measured (tablesFrom (now (table .entry))) (now (s .entry)))) (numbersOf (measured (tablesFrom (now (table .entry))) (now (s .entry)))) (now (answer .entry)) r (now (answer .exit)) ⌝ }
+    ensures { λ r. ⌜ IorLength (now (table .entry)) (now (s .entry)) (now (answer .entry)) r (now (answer .exit)) ⌝ }
 {
     if !is_sized(SIZE, table.len(), answer.len()) {
         return NOT_ASKED;
@@ -146,7 +141,7 @@ pub extern "C" fn ior_length(table: &[u32], s: &[u8], answer: &mut [u64]) -> u32
 
 // Writes the image of the table, measuring it first, or says what is wrong.
 fn measure_and_write(table: &[u32], s: &[u8], out: &mut [u8], answer: &mut [u64]) -> u32
-    ensures { λ r. ⌜ Gives (askable (now (table .entry)) (length (now (answer .entry)))) (written (tablesFrom (now (table .entry))) (now (s .entry)) (now (out .entry))) (leaves (tablesFrom (now (table .entry))) (now (s .entry)) (now (out .entry))) (now (answer .entry)) (now (out .entry)) r (now (answer .exit)) (now (out .exit)) ⌝ }
+    ensures { λ r. ⌜ IorWrite (now (table .entry)) (now (s .entry)) (now (out .entry)) (now (answer .entry)) r (now (answer .exit)) (now (out .exit)) ⌝ }
 {
     if !can_ask(table, answer.len()) {
         return NOT_ASKED;
@@ -157,7 +152,7 @@ fn measure_and_write(table: &[u32], s: &[u8], out: &mut [u8], answer: &mut [u64]
 // Writes the image of the table over the source s at the start of `out`: its length, or the refusal, which leaves `out` as it is.
 #[no_mangle]
 pub extern "C" fn ior_write(table: &[u32], s: &[u8], out: &mut [u8], answer: &mut [u64]) -> u32
-    ensures { λ r. ⌜ Gives (askable (now (table .entry)) (length (now (answer .entry)))) (written (tablesFrom (now (table .entry))) (now (s .entry)) (now (out .entry))) (leaves (tablesFrom (now (table .entry))) (now (s .entry)) (now (out .entry))) (now (answer .entry)) (now (out .entry)) r (now (answer .exit)) (now (out .exit)) ⌝ }
+    ensures { λ r. ⌜ IorWrite (now (table .entry)) (now (s .entry)) (now (out .entry)) (now (answer .entry)) r (now (answer .exit)) (now (out .exit)) ⌝ }
 {
     if !is_sized(SIZE, table.len(), answer.len()) {
         return NOT_ASKED;
@@ -197,7 +192,7 @@ fn type_number(type_id: &[u8]) -> u32
 // The kind that a type id's octets name: 0 to 4, or 5 for unknown; kind[0] is the type id as a number.
 #[no_mangle]
 pub extern "C" fn ior_kind(type_id: &[u8], kind: &mut [u32]) -> u32
-    ensures { λ r. ⌜ Tells (eqb (length (now (kind .entry))) 1) (kindNumber (kindOf (now («type_id» .entry)))) (typeNumber (now («type_id» .entry)) ∷ []) (now (kind .entry)) r (now (kind .exit)) ⌝ }
+    ensures { λ r. ⌜ IorKind (now («type_id» .entry)) (now (kind .entry)) r (now (kind .exit)) ⌝ }
 {
     if kind.len() != 1 {
         return NOT_ASKED;
@@ -231,7 +226,7 @@ fn put_pair(found: TapNumbers, pair: &mut [u32]) -> u32
 // Whether a tap of this use, with this selector, has a transaction id and a timeout, and the two. A use over 16 bits is answered with 255.
 #[no_mangle]
 pub extern "C" fn ior_tap(uses: u32, selector: &[u8], pair: &mut [u32]) -> u32
-    ensures { λ r. ⌜ Tells (tapAsked uses (length (now (pair .entry)))) (tapResult (tapNumbersOf uses (now (selector .entry)))) (tapPair (tapNumbersOf uses (now (selector .entry)))) (now (pair .entry)) r (now (pair .exit)) ⌝ }
+    ensures { λ r. ⌜ IorTap uses (now (selector .entry)) (now (pair .entry)) r (now (pair .exit)) ⌝ }
 {
     if 65535 < uses {
         return NOT_ASKED;
@@ -263,7 +258,7 @@ fn first_of(table: &[u32]) -> Answer
 
 #[no_mangle]
 pub extern "C" fn ior_first_biop(table: &[u32], answer: &mut [u64]) -> u32
-    ensures { λ r. ⌜ Tells (askable (now (table .entry)) (length (now (answer .entry)))) (numberOf (firstSaid (firstBiop (tablesFrom (now (table .entry)))))) (numbersOf (firstSaid (firstBiop (tablesFrom (now (table .entry)))))) (now (answer .entry)) r (now (answer .exit)) ⌝ }
+    ensures { λ r. ⌜ IorFirstBiop (now (table .entry)) (now (answer .entry)) r (now (answer .exit)) ⌝ }
 {
     if !can_ask(table, answer.len()) {
         return NOT_ASKED;
@@ -274,7 +269,7 @@ pub extern "C" fn ior_first_biop(table: &[u32], answer: &mut [u64]) -> u32
 // Whether an address bears the four constants of its kind: 1 or 0; 255 if it has not twenty octets.
 #[no_mangle]
 pub extern "C" fn ior_dvb_address(address: &[u8]) -> u32
-    ensures { λ r. ⌜ r ≡ pick (eqb (length (now (address .entry))) 20) (truth (dvbAddress (now (address .entry)))) 255 ⌝ }
+    ensures { λ r. ⌜ IorDvbAddress (now (address .entry)) r ⌝ }
 {
     if address.len() != 20 {
         return NOT_ASKED;
@@ -321,7 +316,7 @@ fn views_of(name: &[u32]) -> NameComponent
 // refusal, which leaves zeros.
 #[no_mangle]
 pub extern "C" fn ior_name_read(s: &[u8], name: &mut [u32], answer: &mut [u64]) -> u32
-    ensures { λ r. ⌜ Gives (sized 4 (length (now (name .entry))) (length (now (answer .entry)))) (nameSaid (seen shortAt (readShortName (now (s .entry))))) (nameLeft (seen shortAt (readShortName (now (s .entry))))) (now (answer .entry)) (now (name .entry)) r (now (answer .exit)) (now (name .exit)) ⌝ }
+    ensures { λ r. ⌜ IorNameRead (now (s .entry)) (now (name .entry)) (now (answer .entry)) r (now (answer .exit)) (now (name .exit)) ⌝ }
 {
     if !is_sized(NAME, name.len(), answer.len()) {
         return NOT_ASKED;
@@ -348,7 +343,7 @@ pub extern "C" fn ior_name_read(s: &[u8], name: &mut [u32], answer: &mut [u64]) 
 // Writes the name of these views over the source s at the start of `out`: its length, or the refusal, which leaves `out` as it is.
 #[no_mangle]
 pub extern "C" fn ior_name_write(name: &[u32], s: &[u8], out: &mut [u8], answer: &mut [u64]) -> u32
-    ensures { λ r. ⌜ Gives (sized 4 (length (now (name .entry))) (length (now (answer .entry)))) (shortWritten (nameFrom (now (name .entry))) (now (s .entry)) (now (out .entry))) (shortLeaves (nameFrom (now (name .entry))) (now (s .entry)) (now (out .entry))) (now (answer .entry)) (now (out .entry)) r (now (answer .exit)) (now (out .exit)) ⌝ }
+    ensures { λ r. ⌜ IorNameWrite (now (name .entry)) (now (s .entry)) (now (out .entry)) (now (answer .entry)) r (now (answer .exit)) (now (out .exit)) ⌝ }
 {
     if !is_sized(NAME, name.len(), answer.len()) {
         return NOT_ASKED;
