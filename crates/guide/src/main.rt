@@ -126,7 +126,10 @@ fn lend_a_table(s: &[u8]) {
     say_answer(b"lent: written", ior::write_from(&table, s, &mut out));
     table[8] = 65578;
     say_answer(b"lent, too wide: length", ior::length_from(&table, s));
-    say_answer(b"lent, too wide: written", ior::write_from(&table, s, &mut out));
+    say_answer(
+        b"lent, too wide: written",
+        ior::write_from(&table, s, &mut out),
+    );
 }
 
 // A service gateway's reference with one BIOP profile, whose key has two octets.
