@@ -43,6 +43,14 @@ module _ (t s : List ℕ) where
   unfolding measuredFrom
   inexact-measured x = picks-second (exact t) (measured (tablesFrom t) s) notExact x
 
+-- the table that an accepted reading left: no number is cut, and the part's length is measured
+module _ (s t e : List ℕ) (n : ℕ) (l : length t ≡ 490) (k : Taken s t e n) where
+  pub taken-uncut : Uncut e
+  taken-uncut = exact-exactly e (k .shows .long) .0 (taken-exact s t e n l k)
+
+  pub taken-measured : measuredFrom e s ≡ Count n
+  taken-measured = exact-measured e s (taken-exact s t e n l k) ∙ measuredly.length-is-written (tablesFrom e) s s .length n (k .back s (k .leads .inside) .0)
+
 -- writing: what the code shows
 module _ {t s d : List ℕ} {w : Told} where
   pub writes-exact : {f : List ℕ} → exact t ≡ true → Writes (tablesFrom t) s d w f → WritesFrom t s d w f

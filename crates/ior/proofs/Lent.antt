@@ -59,6 +59,13 @@ module _ (s : List ℕ) (o : Octets s) (t e : List ℕ) (lent : length t ≡ 490
   pub lent-refused-reading-is-empty : (x : Refusal) → r ≡ Refused x → (e ≡ replicate 490 0) × (tablesFrom e ≡ noTables)
   lent-refused-reading-is-empty x h = reading.into-refused (readLeading s) t e r c x h
 
+  -- No number of the table that an accepted reading left is cut, and measuring it over the same octets tells the part's length.
+  pub lent-read-is-uncut : (n : ℕ) → r ≡ Count n → Uncut e
+  lent-read-is-uncut n h = asked.taken-uncut s t e n lent (reading.leading-taken s o t e lent r n h c)
+
+  pub lent-length-is-read : (n : ℕ) → r ≡ Count n → (q : Told) → q ≡ measuredFrom e s → q ≡ Count n
+  lent-length-is-read n h q x = x ∙ asked.taken-measured s t e n lent (reading.leading-taken s o t e lent r n h c)
+
   -- Writing from the table that an accepted reading left, over the same octets, into any output with room, answers the part's length and gives the part
   -- back: at every index but the seven constants of each address the octets are equal, and behind the part the output is as before.
   pub lent-write-gives-back : (n : ℕ) → r ≡ Count n → (d : List ℕ) (w : Told) (f : List ℕ) → WritesFrom e s d w f → n ≤ length d
