@@ -16,9 +16,9 @@ use Rattle.reference.specs.Meaning.{Reference}
 use Rattle.reference.specs.Layout.{Leads}
 use Rattle.reference.specs.Checks.{Among}
 use Rattle.reference.specs.Reader.{readLeading, readWhole}
-use Rattle.reference.specs.Tables.{Used, contents, tablesOf, usedOf, said, Unknown}
+use Rattle.reference.specs.Tables.{Used, tablesOf, usedOf, Unknown}
 use Rattle.reference.specs.Writer.{answered, imageOf, written}
-use Rattle.reference.specs.Promises.{GivesBack, ReadsBack, PutInFront}
+use Rattle.reference.specs.Promises.{taking, GivesBack, ReadsBack, PutInFront}
 use Rattle.reference.proofs.Accept.{exactly, whole}
 use Rattle.reference.proofs.Cases.{by-test, by-answer}
 use Rattle.reference.proofs.Numbers.{leading-numbers, whole-numbers}
@@ -120,6 +120,7 @@ module _ (s : List ℕ) (o : Octets s) (t a : List ℕ) (r : ℕ) (b e : List �
   pub c-whole-is-leading : r ≡ 0 → (IorRead s t a r b e) × (getD b 4 0 ≡ length s)
   c-whole-is-leading z = reading.whole-is-leading s o t a r b e c z
 
+  -- Refused readings of a whole slice: the same as of a leading part.
   pub c-unasked-whole-leaves-all : r ≡ 255 → (b ≡ a) × (e ≡ t)
   c-unasked-whole-leaves-all z = reading.read-unasked (readWhole s) (reading.wholly s) t a r b e c z
 
@@ -159,7 +160,7 @@ module _ (t s d a : List ℕ) (r : ℕ) (b f : List ℕ) (c : IorWrite t s d a r
   -- contents.
   pub c-written-reads-back : Octets s → Octets d → length d ≤ 65535 → Words t → Each Unknown (usedOf (tablesFrom t) .profiles) → r ≡ 0
       → (t′ a′ : List ℕ) (r′ : ℕ) (b′ e′ : List ℕ) → length t′ ≡ 490 → length a′ ≡ 5 → IorRead f t′ a′ r′ b′ e′
-      → (r′ ≡ 0) × (b′ ≡ b) × (said f (tablesFrom e′) ≡ said s (tablesFrom t)) × (contents f (usedOf (tablesFrom e′)) ≡ contents s (usedOf (tablesFrom t)))
+      → (r′ ≡ 0) × (b′ ≡ b) × (ReadsBack (tablesFrom t) s (getD b 4 0) f (taking (getD b 4 0) (tablesFrom e′)))
   c-written-reads-back o od small y u z t′ a′ r′ b′ e′ l five w =
       let (h, v, e, q) = writing.write-zero t s d a r b f c z in
       let n = getD b 4 0 in
@@ -169,15 +170,12 @@ module _ (t s d a : List ℕ) (r : ℕ) (b f : List ℕ) (c : IorWrite t s d a r
       subst (λ (x : List ℕ). ReadsBack (tablesFrom t) s n x (answered (readLeading x))) (sym q) (output-reads-back (tablesFrom t) s d o od small typed u n e) in
       let (p, g, i) = reading.read-sized (readLeading f) (reading.leading f) t′ a′ r′ b′ e′ w l five in
       let k = lent-read-back (readLeading f) (leading-good f of) (tablesFrom t) s n f back t′ e′ (answered (readLeading f) .answer) l i in
-      (p ∙ ap numberOf (k .answers), g ∙ ap numbersOf (k .answers) ∙ sym v, k .says, k .means)
+      (p ∙ ap numberOf (k .answers), g ∙ ap numbersOf (k .answers) ∙ sym v, record { answers = refl; says = k .says; means = k .means })
 
   -- The octets that were written, read as a whole slice: the same, whatever the output's length.
   pub c-image-reads-back : Octets s → Words t → Each Unknown (usedOf (tablesFrom t) .profiles) → r ≡ 0
       → (t′ a′ : List ℕ) (r′ : ℕ) (b′ e′ : List ℕ) → length t′ ≡ 490 → length a′ ≡ 5 → IorReadWhole (take (getD b 4 0) f) t′ a′ r′ b′ e′
-      → (r′ ≡ 0)
-      × (b′ ≡ b)
-      × (said (take (getD b 4 0) f) (tablesFrom e′) ≡ said s (tablesFrom t))
-      × (contents (take (getD b 4 0) f) (usedOf (tablesFrom e′)) ≡ contents s (usedOf (tablesFrom t)))
+      → (r′ ≡ 0) × (b′ ≡ b) × (ReadsBack (tablesFrom t) s (getD b 4 0) (take (getD b 4 0) f) (taking (getD b 4 0) (tablesFrom e′)))
   c-image-reads-back o y u z t′ a′ r′ b′ e′ l five w =
       let (h, v, e, q) = writing.write-zero t s d a r b f c z in
       let n = getD b 4 0 in
@@ -189,7 +187,7 @@ module _ (t s d a : List ℕ) (r : ℕ) (b f : List ℕ) (c : IorWrite t s d a r
       subst (λ (i : List ℕ). ReadsBack (tablesFrom t) s n i (answered (readWhole i))) j (written-reads-whole (tablesFrom t) s d o typed u n e) in
       let (p, g, i) = reading.read-sized (readWhole x) (reading.wholly x) t′ a′ r′ b′ e′ w l five in
       let k = lent-read-back (readWhole x) (whole-good x ox) (tablesFrom t) s n x back t′ e′ (answered (readWhole x) .answer) l i in
-      (p ∙ ap numberOf (k .answers), g ∙ ap numbersOf (k .answers) ∙ sym v, k .says, k .means)
+      (p ∙ ap numberOf (k .answers), g ∙ ap numbersOf (k .answers) ∙ sym v, record { answers = refl; says = k .says; means = k .means })
 
   -- The length that ior_length tells is the image's and the length written; 6, 8, 9, 10 and 255 are told by both alike.
   pub c-length-is-written : (a′ : List ℕ) (q : ℕ) (b′ : List ℕ) → length a′ ≡ length a → IorLength t s a′ q b′ → SameLength (imageOf s (tablesFrom t)) q b′ r b
@@ -204,6 +202,7 @@ module _ (t s d a : List ℕ) (r : ℕ) (b f : List ℕ) (c : IorWrite t s d a r
 -- ---- ior_length
 
 module _ (t s a : List ℕ) (r : ℕ) (b : List ℕ) (c : IorLength t s a r b) where
+  -- 255 leaves the answer as it was, and is told exactly if a number would be cut.
   pub c-unasked-measuring-leaves-all : r ≡ 255 → b ≡ a
   c-unasked-measuring-leaves-all z = unasked-told c (writing.measuring-unasked t s a r b c .0 z) .1
 
@@ -213,6 +212,7 @@ module _ (t s a : List ℕ) (r : ℕ) (b : List ℕ) (c : IorLength t s a r b) w
       let x = unaskable-exactly t (length a) l five in
       (λ z. x .0 (u .0 z), λ never. u .1 (x .1 never))
 
+  -- Only used entries are looked at.
   pub c-only-used-measured : (t′ : List ℕ) → length t ≡ length t′ → SameEntries t t′ → (r′ : ℕ) (b′ : List ℕ) → IorLength t′ s a r′ b′ → (r ≡ r′) × (b ≡ b′)
   c-only-used-measured t′ l h r′ b′ c′ =
       let x = writing.alike t t′ l h s s (length a) in
