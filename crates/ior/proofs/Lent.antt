@@ -30,7 +30,7 @@ use Rattle.reading.proofs.Valued.{leading-good, whole-good}
 use Rattle.reading.proofs.Lent as reading
 use Rattle.reading.proofs.Determined as determined
 use Rattle.ior.specs.Lent.{notExact, measuredFrom, WritesFrom}
-use Rattle.ior.proofs.Asked as asked
+use Rattle.ior.proofs.Guarded as guarded
 use Rattle.ior.proofs.Demands as face
 
 -- What is told of the table that an accepted reading leaves has exactly the reference's used entries, whatever the table held before.
@@ -61,10 +61,10 @@ module _ (s : List ℕ) (o : Octets s) (t e : List ℕ) (lent : length t ≡ 490
 
   -- No number of the table that an accepted reading left is cut, and measuring it over the same octets tells the part's length.
   pub lent-read-is-uncut : (n : ℕ) → r ≡ Count n → Uncut e
-  lent-read-is-uncut n h = asked.taken-uncut s t e n lent (reading.leading-taken s o t e lent r n h c)
+  lent-read-is-uncut n h = guarded.taken-uncut s t e n lent (reading.leading-taken s o t e lent r n h c)
 
   pub lent-length-is-read : (n : ℕ) → r ≡ Count n → (q : Told) → q ≡ measuredFrom e s → q ≡ Count n
-  lent-length-is-read n h q x = x ∙ asked.taken-measured s t e n lent (reading.leading-taken s o t e lent r n h c)
+  lent-length-is-read n h q x = x ∙ guarded.taken-measured s t e n lent (reading.leading-taken s o t e lent r n h c)
 
   -- Writing from the table that an accepted reading left, over the same octets, into any output with room, answers the part's length and gives the part
   -- back: at every index but the seven constants of each address the octets are equal, and behind the part the output is as before.
@@ -73,7 +73,7 @@ module _ (s : List ℕ) (o : Octets s) (t e : List ℕ) (lent : length t ≡ 490
   lent-write-gives-back n h d w f x room =
       let k = reading.leading-taken s o t e lent r n h c in
       let (a, g) = k .back d room in
-      let y = asked.exact-writes e s d w f x (asked.taken-exact s t e n lent k) in
+      let y = guarded.exact-writes e s d w f x (guarded.taken-exact s t e n lent k) in
       (k .meaning, k .leads, y .answers ∙ a, subst (GivesBack s (k .meaning) n d) (sym (y .leaves)) g)
 
 -- ---- read_whole_into
@@ -100,15 +100,15 @@ module _ (s : List ℕ) (o : Octets s) (t e : List ℕ) (lent : length t ≡ 490
 module _ (t s d : List ℕ) (w : Told) (f : List ℕ) (c : WritesFrom t s d w f) where
   -- DEMAND 1, second half: a refused writing changes no octet.
   pub lent-refused-writing-leaves-all : (x : Refusal) → w ≡ Refused x → f ≡ d
-  lent-refused-writing-leaves-all x h = asked.refused-leaves t s d w f c x h
+  lent-refused-writing-leaves-all x h = guarded.refused-leaves t s d w f c x h
 
   -- No number is cut: a table is refused with 255 exactly if some used entry would not be told as it stands.
   pub lent-cuts-no-number : length t ≡ 490 → (w ≡ notExact) ↔ (Uncut t → ⊥)
-  lent-cuts-no-number l = asked.writing-cuts-nothing t s d w f c l
+  lent-cuts-no-number l = guarded.writing-cuts-nothing t s d w f c l
 
   -- An accepted one puts the image at the front, as long as it answers, and leaves the octets behind it.
   pub lent-accepted-writing-puts : (n : ℕ) → w ≡ Count n → PutInFront (imageOf s (tablesFrom t)) d n f
-  lent-accepted-writing-puts n h = face.accepted-writing-puts (tablesFrom t) s d w f (asked.accepted-writes t s d w f c n h) n h
+  lent-accepted-writing-puts n h = face.accepted-writing-puts (tablesFrom t) s d w f (guarded.accepted-writes t s d w f c n h) n h
 
   -- DEMAND 3, the other way: what the writer accepts, with no opaque profile under a known tag, is read back from the output itself, into any lent
   -- table, with equal contents.
@@ -116,7 +116,7 @@ module _ (t s d : List ℕ) (w : Told) (f : List ℕ) (c : WritesFrom t s d w f)
       → (t′ e′ : List ℕ) (r′ : Told) → length t′ ≡ 490 → ReadInto (readLeading f) t′ e′ r′ → ReadsBack (tablesFrom t) s n f (record { answer = r′; tables = tablesFrom e′ })
   lent-written-reads-back o od small y u n h t′ e′ r′ l c′ =
       let typed = told-typed t y in
-      let x = asked.accepted-writes t s d w f c n h in
+      let x = guarded.accepted-writes t s d w f c n h in
       let of : Octets f = subst Octets (sym (x .leaves)) (output-octets (tablesFrom t) s d o od typed n (sym (x .answers) ∙ h)) in
       reading.lent-read-back (readLeading f) (leading-good f of) (tablesFrom t) s n f (face.written-reads-back (tablesFrom t) s d w f x o od small typed u n h _ refl) t′ e′ r′ l c′
 
@@ -126,18 +126,18 @@ module _ (t s d : List ℕ) (w : Told) (f : List ℕ) (c : WritesFrom t s d w f)
       → ReadsBack (tablesFrom t) s n (take n f) (record { answer = r′; tables = tablesFrom e′ })
   lent-image-reads-back o y u n h t′ e′ r′ l c′ =
       let typed = told-typed t y in
-      let x = asked.accepted-writes t s d w f c n h in
+      let x = guarded.accepted-writes t s d w f c n h in
       let ox : Octets (take n f) = subst Octets (sym (lent-accepted-writing-puts n h .front)) (face.image-octets (tablesFrom t) s d w f x o typed n h) in
       reading.lent-read-back (readWhole (take n f)) (whole-good (take n f) ox) (tablesFrom t) s n (take n f)
       (face.image-reads-back (tablesFrom t) s d w f x o typed u n h _ refl) t′ e′ r′ l c′
 
   -- The length q that length_from tells is the image's and the length written, and it is refused with 255, 6, 8, 9 or 10 exactly as write_from is.
   pub lent-length-is-written : (q : Told) → q ≡ measuredFrom t s → LengthIsWritten (255 ∷ 6 ∷ 8 ∷ 9 ∷ 10 ∷ []) (imageOf s (tablesFrom t)) q w
-  lent-length-is-written q h = asked.length-is-written t s d w f c q h
+  lent-length-is-written q h = guarded.length-is-written t s d w f c q h
 
   -- Only used entries are looked at: tables with the same front, and the same numbers in their used entries, are measured and written alike.
   pub lent-only-used-matter : (t′ : List ℕ) → SameEntries t t′ → (w′ : Told) (f′ : List ℕ) → WritesFrom t′ s d w′ f′ → (measuredFrom t s ≡ measuredFrom t′ s) × (w ≡ w′) × (f ≡ f′)
-  lent-only-used-matter t′ h w′ f′ c′ = asked.only-used-matter t t′ h s d w w′ f f′ c c′
+  lent-only-used-matter t′ h w′ f′ c′ = guarded.only-used-matter t t′ h s d w w′ f f′ c c′
 
 -- ---- each contract determines the answer, and the table or the output too
 

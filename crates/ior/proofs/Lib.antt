@@ -1,3 +1,3 @@
 pub mod Demands
-pub mod Asked
+pub mod Guarded
 pub mod Lent

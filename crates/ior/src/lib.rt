@@ -1,6 +1,6 @@
 // The library's face: every public call, with what it does, what it refuses and what a refusal leaves. No call asks anything of its caller:
 // every slice, every table and every output gets an answer. A refusal is a number, a place and two figures (document 01); the promises
-// about these calls stand in proofs/Demands.
+// about these calls stand in proofs/Demands and, of those on a lent table, in proofs/Lent.
 ghost use mathlib.Core.Path.{_≡_};
 ghost use Rattle.reference.specs.Reader.{seen, readLeading, readWhole};
 ghost use Rattle.reference.specs.Writer.{answered, measured};

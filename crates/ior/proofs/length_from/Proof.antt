@@ -2,7 +2,7 @@
 use mathlib.Core.Path.{sym, ap, _∙_}
 use borrow.Author.Needs.{needs}
 use Rattle.reference.specs.declared.Answer.the-variants.{Refused}
-use Rattle.ior.proofs.Asked.{exact-measured, inexact-measured}
+use Rattle.ior.proofs.Guarded.{exact-measured, inexact-measured}
 use Rattle.ior.proofs.length_from.Statement.{statement}
 use Rattle.ior.proofs.length_from.Tie as tie
 

@@ -2,7 +2,7 @@
 use mathlib.Core.Path.{sym, ap, _∙_}
 use borrow.Author.Needs.{needs}
 use Rattle.reference.specs.declared.Answer.the-variants.{Refused}
-use Rattle.ior.proofs.Asked.{writes-exact, refuses-inexact}
+use Rattle.ior.proofs.Guarded.{writes-exact, refuses-inexact}
 use Rattle.ior.proofs.write_from.Statement.{statement}
 use Rattle.ior.proofs.write_from.Tie as tie
 
