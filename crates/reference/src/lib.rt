@@ -209,7 +209,7 @@ pub fn too_long(declared: usize, available: usize) -> Refusal
     }
 }
 
-// 3, 4 or 8: a value or a count is wrong; the place says which.
+// 3, 4 or 8: a value or a count is wrong, and the place says which; or 255, with no place: a number of a lent table would be cut.
 pub fn wrong(number: u8, place: u8) -> Refusal
     ensures { λ r. ⌜ r ≡ refusal number place 0 0 ⌝ }
 {
