@@ -1,4 +1,4 @@
-// Answers requests from standard input, a line for each, until the input ends; a bad request ends the run. docs/ANSWERS.md has the form of a
+// Answers requests from standard input, whose name is the argument, a line for each, until the input ends; a bad request ends the run. docs/ANSWERS.md has the form of a
 // request and of a line.
 ghost use mathlib.Core.Path.{_≡_};
 ghost use Prim.Native.Nat.{_+_, _≤_};
@@ -8,6 +8,7 @@ ghost use Rattle.table.specs.Region.{chunks};
 ghost use Rattle.io.specs.Counts.{Counts};
 use by_value::tables_of;
 use exact::is_exact;
+use intake::fill_from;
 use libc::STDIN_FILENO;
 use libc::STDOUT_FILENO;
 use lines::put_answer;
@@ -22,6 +23,8 @@ use names::read_short_name;
 use names::write_short_name;
 use octets::be16;
 use octets::be32;
+use outcome::Outcome;
+use outcome::tell;
 use questions::first_biop;
 use questions::is_dvb;
 use questions::object_kind;
@@ -39,19 +42,27 @@ use writing::write_from;
 // What an output holds before a writing.
 const BEFORE: u8 = 0xA5;
 
-// How many octets there are, of a part of a request or of an answer's line; none if the request is bad.
+// How many octets there are, of a part of a request or of an answer's line. None if there is no answer: the request is bad, or a read failed.
 struct Found {
     count: usize,
-    is_bad: bool,
+    is_none: bool,
+    is_failure: bool,
+}
+
+fn none(is_failure: bool) -> Found
+    ensures { λ r. ⌜ r .count ≡ 0 ⌝ }
+{
+    Found {
+        count: 0,
+        is_none: true,
+        is_failure,
+    }
 }
 
 fn bad() -> Found
     ensures { λ r. ⌜ r .count ≡ 0 ⌝ }
 {
-    Found {
-        count: 0,
-        is_bad: true,
-    }
+    none(false)
 }
 
 fn counted(count: usize) -> Found
@@ -59,19 +70,23 @@ fn counted(count: usize) -> Found
 {
     Found {
         count,
-        is_bad: false,
+        is_none: false,
+        is_failure: false,
     }
 }
 
 // ---- the parts of a request
 
-// Fills `part` from standard input; false if it ends before.
-fn take(part: &mut [u8]) -> bool {
+// Fills `part` from standard input; none if that ends before.
+fn take(part: &mut [u8]) -> Found
+    ensures { λ r. ⌜ r .count ≤ length (now (part .entry)) ⌝ }
+{
     let n = part.len();
-    if n == 0 {
-        return true;
+    let came = fill_from(STDIN_FILENO, part);
+    if came.count < n {
+        return none(came.is_failure);
     }
-    io::read_full(STDIN_FILENO, part) == n
+    counted(n)
 }
 
 // So many octets at the start of `room`; bad if it has fewer.
@@ -89,8 +104,9 @@ fn take_size(room: &[u8]) -> Found
     ensures { λ r. ⌜ Counts (r .count) (now (room .entry)) ⌝ }
 {
     let mut four = [0u8; 4];
-    if !take(&mut four) {
-        return bad();
+    let taken = take(&mut four);
+    if taken.is_none {
+        return none(taken.is_failure);
     }
     within(be32(&four, 0) as usize, room)
 }
@@ -100,12 +116,13 @@ fn take_source(src: &mut [u8]) -> Found
     ensures { λ r. ⌜ Counts (r .count) (now (src .exit)) ⌝ }
 {
     let size = take_size(src);
-    if size.is_bad {
-        return bad();
+    if size.is_none {
+        return none(size.is_failure);
     }
     let n = size.count;
-    if !take(&mut src[..n]) {
-        return bad();
+    let taken = take(&mut src[..n]);
+    if taken.is_none {
+        return none(taken.is_failure);
     }
     within(n, src)
 }
@@ -122,16 +139,20 @@ fn put_numbers(octets: &[u8], table: &mut [u32])
     }
 }
 
-// A table from outside; false if it is cut or not exact.
-fn take_table(table: &mut [u32]) -> bool
+// A table from outside; none if it is cut or not exact.
+fn take_table(table: &mut [u32]) -> Found
     requires { ⌜ length (now table) ≡ 490 ⌝ }
 {
     let mut octets = [0u8; 1960];
-    if !take(&mut octets) {
-        return false;
+    let taken = take(&mut octets);
+    if taken.is_none {
+        return none(taken.is_failure);
     }
     put_numbers(&octets, table);
-    is_exact(table)
+    if !is_exact(table) {
+        return bad();
+    }
+    counted(490)
 }
 
 fn fill(out: &mut [u8])
@@ -172,8 +193,8 @@ fn answer_reading(is_whole: bool, table: &mut [u32], src: &mut [u8], line: &mut 
     ensures { λ r. ⌜ r .count ≤ 149999 ⌝ }
 {
     let taken = take_source(src);
-    if taken.is_bad {
-        return bad();
+    if taken.is_none {
+        return none(taken.is_failure);
     }
     let n = taken.count;
     counted(read_line(is_whole, &src[..n], table, line))
@@ -183,12 +204,13 @@ fn answer_length(table: &mut [u32], src: &mut [u8], line: &mut [u8]) -> Found
     requires { ⌜ (length (now table) ≡ 490) × (length (now src) ≡ 70000) × (length (now line) ≡ 150000) ⌝ }
     ensures { λ r. ⌜ r .count ≤ 149999 ⌝ }
 {
-    if !take_table(table) {
-        return bad();
+    let numbers = take_table(table);
+    if numbers.is_none {
+        return none(numbers.is_failure);
     }
     let taken = take_source(src);
-    if taken.is_bad {
-        return bad();
+    if taken.is_none {
+        return none(taken.is_failure);
     }
     let n = taken.count;
     let answer = length_from(table, &src[..n]);
@@ -217,17 +239,18 @@ fn answer_writing(table: &mut [u32], src: &mut [u8], out: &mut [u8], line: &mut 
     requires { ⌜ (length (now table) ≡ 490) × (length (now src) ≡ 70000) × (length (now out) ≡ 70000) × (length (now line) ≡ 150000) ⌝ }
     ensures { λ r. ⌜ r .count ≤ 149999 ⌝ }
 {
-    if !take_table(table) {
-        return bad();
+    let numbers = take_table(table);
+    if numbers.is_none {
+        return none(numbers.is_failure);
     }
     let room = take_size(out);
-    if room.is_bad {
-        return bad();
+    if room.is_none {
+        return none(room.is_failure);
     }
     let m = room.count;
     let taken = take_source(src);
-    if taken.is_bad {
-        return bad();
+    if taken.is_none {
+        return none(taken.is_failure);
     }
     let n = taken.count;
     counted(write_line(table, &src[..n], &mut out[..m], line))
@@ -238,8 +261,8 @@ fn answer_kind(src: &mut [u8], line: &mut [u8]) -> Found
     ensures { λ r. ⌜ r .count ≤ 149999 ⌝ }
 {
     let taken = take_source(src);
-    if taken.is_bad {
-        return bad();
+    if taken.is_none {
+        return none(taken.is_failure);
     }
     let n = taken.count;
     let kind = object_kind(&src[..n]);
@@ -251,12 +274,13 @@ fn answer_tap(src: &mut [u8], line: &mut [u8]) -> Found
     ensures { λ r. ⌜ r .count ≤ 149999 ⌝ }
 {
     let mut two = [0u8; 2];
-    if !take(&mut two) {
-        return bad();
+    let tap = take(&mut two);
+    if tap.is_none {
+        return none(tap.is_failure);
     }
     let taken = take_source(src);
-    if taken.is_bad {
-        return bad();
+    if taken.is_none {
+        return none(taken.is_failure);
     }
     let n = taken.count;
     let numbers = tap_numbers(be16(&two, 0), &src[..n]);
@@ -268,8 +292,8 @@ fn answer_name(src: &mut [u8], line: &mut [u8]) -> Found
     ensures { λ r. ⌜ r .count ≤ 149999 ⌝ }
 {
     let taken = take_source(src);
-    if taken.is_bad {
-        return bad();
+    if taken.is_none {
+        return none(taken.is_failure);
     }
     let n = taken.count;
     let name = read_short_name(&src[..n]);
@@ -305,18 +329,19 @@ fn answer_name_writing(src: &mut [u8], out: &mut [u8], line: &mut [u8]) -> Found
     ensures { λ r. ⌜ r .count ≤ 149999 ⌝ }
 {
     let mut views = [0u8; 16];
-    if !take(&mut views) {
-        return bad();
+    let four = take(&mut views);
+    if four.is_none {
+        return none(four.is_failure);
     }
     let name = name_of(&views);
     let room = take_size(out);
-    if room.is_bad {
-        return bad();
+    if room.is_none {
+        return none(room.is_failure);
     }
     let m = room.count;
     let taken = take_source(src);
-    if taken.is_bad {
-        return bad();
+    if taken.is_none {
+        return none(taken.is_failure);
     }
     let n = taken.count;
     counted(write_name_line(name, &src[..n], &mut out[..m], line))
@@ -326,8 +351,9 @@ fn answer_first(table: &mut [u32], line: &mut [u8]) -> Found
     requires { ⌜ (length (now table) ≡ 490) × (length (now line) ≡ 150000) ⌝ }
     ensures { λ r. ⌜ r .count ≤ 149999 ⌝ }
 {
-    if !take_table(table) {
-        return bad();
+    let numbers = take_table(table);
+    if numbers.is_none {
+        return none(numbers.is_failure);
     }
     let first = first_biop(tables_of(table));
     counted(put_first(line, 0, first))
@@ -338,8 +364,9 @@ fn answer_address(line: &mut [u8]) -> Found
     ensures { λ r. ⌜ r .count ≤ 149999 ⌝ }
 {
     let mut address = [0u8; 20];
-    if !take(&mut address) {
-        return bad();
+    let taken = take(&mut address);
+    if taken.is_none {
+        return none(taken.is_failure);
     }
     if is_dvb(address) {
         return counted(put_word(line, 0, b"yes"));
@@ -368,38 +395,83 @@ fn answer(op: u8, table: &mut [u32], src: &mut [u8], out: &mut [u8], line: &mut 
 
 // ---- one request after the other
 
-// One request; false at the end of the input, after a bad request, and where nothing can be written.
-fn serve(table: &mut [u32], src: &mut [u8], out: &mut [u8], line: &mut [u8]) -> bool
+// What follows a request: the next one, or the end of the run.
+enum Turn {
+    Next,
+    Last(Outcome),
+}
+
+// No request begins: the input ended, or a read failed.
+fn at_end(is_failure: bool) -> Turn {
+    if is_failure {
+        return Turn::Last(Outcome::NotRead);
+    }
+    Turn::Last(Outcome::Done)
+}
+
+// A request has no answer: it is bad, which is said, or a read failed.
+fn no_answer(is_failure: bool) -> Turn {
+    if is_failure {
+        return Turn::Last(Outcome::NotRead);
+    }
+    if io::write_all(STDOUT_FILENO, b"bad request\n") {
+        return Turn::Last(Outcome::Broken);
+    }
+    Turn::Last(Outcome::NotWritten)
+}
+
+// The line of n octets, and its end.
+fn end_line(line: &mut [u8], n: usize) -> Turn
+    requires { ⌜ (length (now line) ≡ 150000) × (n ≤ 149999) ⌝ }
+{
+    let end = put_octet(line, n, b'\n');
+    if io::write_all(STDOUT_FILENO, &line[..end]) {
+        return Turn::Next;
+    }
+    Turn::Last(Outcome::NotWritten)
+}
+
+fn serve(table: &mut [u32], src: &mut [u8], out: &mut [u8], line: &mut [u8]) -> Turn
     requires { ⌜ (length (now table) ≡ 490) × (length (now src) ≡ 70000) × (length (now out) ≡ 70000) × (length (now line) ≡ 150000) ⌝ }
 {
     let mut op = [0u8; 1];
-    if !take(&mut op) {
-        return false;
+    let begun = take(&mut op);
+    if begun.is_none {
+        return at_end(begun.is_failure);
     }
     let answered = answer(op[0], table, src, out, line);
-    if answered.is_bad {
-        io::write_all(STDOUT_FILENO, b"bad request\n");
-        return false;
+    if answered.is_none {
+        return no_answer(answered.is_failure);
     }
-    let n = answered.count;
-    let end = put_octet(line, n, b'\n');
-    io::write_all(STDOUT_FILENO, &line[..end])
+    end_line(line, answered.count)
 }
 
 // A proved loop has to end, and nothing says that the input does: it counts its turns down from a number that no run uses up.
-fn serve_all(table: &mut [u32], src: &mut [u8], out: &mut [u8], line: &mut [u8])
+fn serve_all(table: &mut [u32], src: &mut [u8], out: &mut [u8], line: &mut [u8]) -> Outcome
     requires { ⌜ (length (now table) ≡ 490) × (length (now src) ≡ 70000) × (length (now out) ≡ 70000) × (length (now line) ≡ 150000) ⌝ }
 {
     let mut turns = u64::MAX;
-    while turns > 0 && serve(table, src, out, line) {
+    while turns > 0 {
+        if let Turn::Last(outcome) = serve(table, src, out, line) {
+            return outcome;
+        }
         turns -= 1;
     }
+    Outcome::NotRead
 }
 
-fn main() {
+// The run, apart from the input's name, so that no array stands beside it.
+fn run() -> Outcome {
     let mut table = [0u32; 490];
     let mut src = [0u8; 70000];
     let mut out = [0u8; 70000];
     let mut line = [0u8; 150000];
-    serve_all(&mut table, &mut src, &mut out, &mut line);
+    serve_all(&mut table, &mut src, &mut out, &mut line)
+}
+
+fn main() {
+    let mut name = io::buffer();
+    let n = os::arg(1, &mut name);
+    let outcome = run();
+    tell(outcome, &name[..n]);
 }

@@ -1,4 +1,4 @@
--- What an accepted whole reading and its tables say of the type id and the profiles: the type id stands behind the first four octets.
+-- What an accepted whole reading and its lent table say of the type id and the profiles: the type id stands behind the first four octets.
 -- Assumes nothing.
 use Prim.Native.Nat.{ℕ, _+_, _-_, _%_, _≤_}
 use native.Mathlib.Nat.{add-sub-cancel-left}
@@ -6,21 +6,19 @@ use mathlib.Core.Path.{_≡_, refl, sym, ap, subst, _∙_}
 use mathlib.Core.List.{List}
 use native.Mathlib.Omega.{arith}
 use lib.Dec.{ltb, eqb, nltb→le}
-use lib.ListN.{length}
-use Rattle.octets.specs.Octets.{part, be}
+use lib.ListN.{length, getD}
+use Rattle.octets.specs.Octets.{part, be, splice}
 use Rattle.octets.proofs.Part.{length-part}
 use Rattle.reference.specs.declared.Refusal.{Refusal}
+use Rattle.reference.specs.declared.Answer.{Answer as Told}
 use Rattle.reference.specs.declared.Answer.the-variants.{Count, Refused}
 use Rattle.reference.specs.Meaning.{Reference, tapsOf, namesOf, extrasOf, total}
 use Rattle.reference.specs.Reader.{Answer, ok, refused, roomy, need, number, check, run, after, done, many, ending, readProfile, readReference, readWhole}
-use Rattle.reference.specs.declared.Reading.{Reading}
-use Rattle.reference.specs.declared.Tables.{Tables}
 use Rattle.reference.specs.Questions.{Kind, kindOf}
-use Rattle.reference.specs.Tables.{tablesOf, tabled, entryAt}
-use Rattle.reference.specs.Layout.{layoutProfile}
 use Rattle.reference.specs.Writer.{answered}
 use Rattle.reference.proofs.Laws.{guard-ok, pass-ok, followed-ok}
-use Rattle.reference.proofs.Shown.{length-placed}
+use Rattle.table.specs.Filed.{referenceFiled}
+use Rattle.reading.specs.Into.{ReadInto, tableLeft}
 use Rattle.cache.specs.Rows.{foundText, refusedText, answerText}
 
 -- the type id that a reference's reader found
@@ -69,30 +67,38 @@ pub told-refused : (x : Answer Reference) {y : Refusal} → answered x .answer �
 told-refused (ok m n) e = let z : _≡_ {A = ℕ} 0 1 = cc in absurd (omega arith)
 told-refused (refused z) {y} e = let q : z ≡ y = cc in ap (λ (i : Refusal). refused i) q
 
--- a reading by value: what its row says
-module _ (s : List ℕ) (r : Reading) (h : r ≡ answered (readWhole s)) where
-  pub row-refused : {y : Refusal} → r .answer ≡ Refused y → refusedText (y .number) ≡ answerText (readWhole s)
+-- a whole reading into a lent table t, which left e: what its row says
+module _ (s t e : List ℕ) (r : Told) (h : ReadInto (readWhole s) t e r) where
+  pub row-refused : {y : Refusal} → r ≡ Refused y → refusedText (y .number) ≡ answerText (readWhole s)
   unfolding answerText
-  row-refused {y} e = let x = told-refused (readWhole s) (sym (ap (λ (v : Reading). v .answer) h) ∙ e) in rw x refl
+  row-refused {y} q = let x = told-refused (readWhole s) (sym (h .answers) ∙ q) in rw x refl
 
-  module _ {k : ℕ} (e : r .answer ≡ Count k) where
-    meaning : (m : Reference) × (readWhole s ≡ ok m k)
-    meaning = told-count (readWhole s) (sym (ap (λ (v : Reading). v .answer) h) ∙ e)
+  module _ {k : ℕ} (q : r ≡ Count k) where
+    pub meaning : (m : Reference) × (readWhole s ≡ ok m k)
+    meaning = told-count (readWhole s) (sym (h .answers) ∙ q)
 
-    tables-are : r .tables ≡ tabled (tablesOf (meaning .0))
-    tables-are = ap (λ (v : Reading). v .tables) (h ∙ ap answered (meaning .1))
+    left : e ≡ referenceFiled t (meaning .0)
+    left = h .leaves ∙ ap (λ (x : Answer Reference). tableLeft x t) (meaning .1)
 
-    pub view-inside : r .tables .«type_id» .at + r .tables .«type_id» .len ≤ length s
-    view-inside = subst (λ (t : Tables). t .«type_id» .at + t .«type_id» .len ≤ length s) (sym tables-are) (type-id-stands s (meaning .1) .0)
+    pub type-id-at : getD e 0 0 ≡ 4
+    unfolding splice
+    type-id-at = ap (λ (x : List ℕ). getD x 0 0) left
 
-    pub row-found : {d : Kind} → d ≡ kindOf (part s (r .tables .«type_id» .at) (r .tables .«type_id» .at + r .tables .«type_id» .len - r .tables .«type_id» .at))
-        → foundText d (r .tables .«profiles_used») ≡ answerText (readWhole s)
+    pub type-id-long : getD e 1 0 ≡ length (meaning .0 .typeId)
+    unfolding splice
+    type-id-long = ap (λ (x : List ℕ). getD x 1 0) left
+
+    pub profiles-used : getD e 2 0 ≡ length (meaning .0 .profiles)
+    unfolding splice
+    profiles-used = ap (λ (x : List ℕ). getD x 2 0) left
+
+    pub view-inside : getD e 0 0 + getD e 1 0 ≤ length s
+    view-inside = omega (arith, type-id-at, type-id-long, type-id-stands s (meaning .1) .0)
+
+    pub row-found : {d : Kind} → d ≡ kindOf (part s (getD e 0 0) (getD e 0 0 + getD e 1 0 - getD e 0 0)) → foundText d (getD e 2 0) ≡ answerText (readWhole s)
     unfolding answerText
-    row-found {d} q =
+    row-found {d} p =
         let m : Reference = meaning .0 in
-        let shown : kindOf (part s (r .tables .«type_id» .at) (r .tables .«type_id» .at + r .tables .«type_id» .len - r .tables .«type_id» .at)) ≡ kindOf (m .typeId) =
-        subst (λ (t : Tables). kindOf (part s (t .«type_id» .at) (t .«type_id» .at + t .«type_id» .len - t .«type_id» .at)) ≡ kindOf (m .typeId)) (sym tables-are)
-        (ap (λ (n : ℕ). kindOf (part s 4 n)) (add-sub-cancel-left 4 (length (m .typeId))) ∙ ap kindOf (type-id-stands s (meaning .1) .1)) in
-        let used : r .tables .«profiles_used» ≡ length (m .profiles) =
-        ap (λ (t : Tables). t .«profiles_used») tables-are ∙ length-placed entryAt layoutProfile (length (m .typeId) + 8) (m .profiles) in
-        ap (λ (x : Kind). foundText x (r .tables .«profiles_used»)) (q ∙ shown) ∙ ap (foundText (kindOf (m .typeId))) used ∙ ap answerText (sym (meaning .1))
+        let shown : part s (getD e 0 0) (getD e 0 0 + getD e 1 0 - getD e 0 0) ≡ m .typeId =
+        rw (type-id-at, type-id-long) (ap (part s 4) (add-sub-cancel-left 4 (length (m .typeId))) ∙ type-id-stands s (meaning .1) .1) in
+        ap (λ (x : Kind). foundText x (getD e 2 0)) (p ∙ ap kindOf shown) ∙ ap (foundText (kindOf (m .typeId))) profiles-used ∙ ap answerText (sym (meaning .1))

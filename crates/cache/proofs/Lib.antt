@@ -3,3 +3,4 @@ pub mod Accepted
 pub mod Determined
 pub mod Worked
 pub mod Fetched
+pub mod Pages

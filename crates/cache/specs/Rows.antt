@@ -1,5 +1,7 @@
 -- The listing of a cache as text (document 01, "Cache listing"): a heading, a row for each record, and a last line. Assumes nothing.
-use Prim.Native.Nat.{ℕ, zero, suc, _-_}
+use Prim.Native.Nat.{ℕ, zero, suc, _+_, _-_, _*_, _≤_, _<_}
+use mathlib.Core.Path.{_≡_}
+use mathlib.Core.Bool.{true, false}
 use mathlib.Core.List.{List, [], _∷_, _++_}
 use lib.ListN.{length, take}
 use Rattle.octets.specs.Octets.{part, octets}
@@ -9,6 +11,7 @@ use Rattle.reference.specs.Reader.{Answer, ok, refused, readWhole}
 use Rattle.reference.specs.Questions.{Kind, directory, file, stream, serviceGateway, streamEvent, unknown, kindOf, dir, fil, str, srg, ste}
 use Rattle.cache.specs.declared.Record.{Record}
 use Rattle.cache.specs.declared.Record.the-variants.{Got, Broken, End}
+use Rattle.cache.specs.declared.Rows.{Rows}
 use Rattle.cache.specs.Records.{recordAt}
 
 -- three letters, or eight lowercase hexadecimal digits
@@ -63,3 +66,19 @@ linesFrom (suc n) l k at = lineAt (recordAt l at) k at (linesFrom n l) l
 -- the whole output
 unfoldable pub listed : List ℕ → List ℕ
 listed l = heading ++ linesFrom (suc (length l)) l 0 0
+
+-- The rows of the records of the block l from `at` on, after k records, fill the first `used` octets of a page, up to record `seen`, which ends before `next`:
+-- what the page holds, and then the lines from `next` on, are the lines from `at` on. A row has at most 80 octets, a record at least one.
+pub record Rowed (l : List ℕ) (at k : ℕ) (page : List ℕ) (next seen used : ℕ) : Type 0 where
+  pub inside : next ≤ length l
+  pub later : k ≤ seen
+  pub apart : seen + at ≤ next + k
+  pub within : used ≤ length page
+  pub short : used + 80 * k ≤ 80 * seen
+  pub lines : (n : ℕ) → linesFrom (n + seen) l k at ≡ take used page ++ linesFrom (n + k) l seen next
+
+-- Such rows, as far as r says: the page is full, so that no row more surely fits, or no whole record stands next.
+pub record Listed (l : List ℕ) (at k : ℕ) (page : List ℕ) (r : Rows) : Type 0 where
+  pub rows : Rowed l at k page (r .next) (r .seen) (r .used)
+  pub full : r .«is_full» ≡ true → length page < r .used + 80
+  pub none : r .«is_full» ≡ false → (a b : ℕ) → recordAt l (r .next) ≡ Got a b → ⊥

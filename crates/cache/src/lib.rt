@@ -1,16 +1,16 @@
 // Marked records of a cache, and the rows of its listing as octets.
 ghost use mathlib.Core.Path.{_≡_};
-ghost use Prim.Native.Nat.{_+_, _≤_};
+ghost use Prim.Native.Nat.{_+_, _≤_, _<_};
 ghost use lib.ListN.{length};
 ghost use Rattle.text.specs.Written.{Written};
 ghost use Rattle.reference.specs.Reader.{readWhole};
 ghost use Rattle.questions.specs.Told.{kindTold};
 ghost use Rattle.cache.specs.Records.{recordAt, announced};
-ghost use Rattle.cache.specs.Rows.{heading, rowOf, endText, brokenText, kindText, foundText, refusedText, answerText};
+ghost use Rattle.cache.specs.Rows.{heading, rowOf, endText, brokenText, kindText, foundText, refusedText, answerText, Listed};
 use octets::be16;
 use questions::ObjectKind;
 use questions::object_kind;
-use reading::read_whole;
+use reading::read_whole_into;
 use reference::Answer;
 use text::put_decimal;
 use text::put_hex32;
@@ -99,33 +99,71 @@ fn put_refused(number: u8, out: &mut [u8], at: usize) -> usize
     put_spaced(out, next, number as u64)
 }
 
-fn put_answer(s: &[u8], out: &mut [u8], at: usize) -> usize
-    requires { ⌜ at + 31 ≤ length (now out) ⌝ }
+// What the row says behind the record's length. The reading goes into a lent table, whatever that held.
+fn put_answer(s: &[u8], table: &mut [u32], out: &mut [u8], at: usize) -> usize
+    requires { ⌜ (length (now table) ≡ 490) × (at + 31 ≤ length (now out)) ⌝ }
     ensures { λ r. ⌜ Written (now (out .entry)) at 31 (answerText (readWhole (now (s .entry)))) (now (out .exit)) r ⌝ }
 {
-    let reading = read_whole(s);
-    let answer = reading.answer;
-    match answer {
+    match read_whole_into(s, table) {
         Answer::Refused(why) => put_refused(why.number, out, at),
         Answer::Count(_) => {
-            let tables = reading.tables;
-            let start = tables.type_id.at as usize;
-            let stop = start + tables.type_id.len as usize;
+            let start = table[0] as usize;
+            let stop = start + table[1] as usize;
             let kind = object_kind(&s[start..stop]);
-            put_found(kind, tables.profiles_used, out, at)
+            put_found(kind, table[2], out, at)
         }
     }
 }
 
-// The row of record `number`, whose reference is s, at the start of `out`: how many octets the row has. Any line of the listing fits 80.
-pub fn put_row(number: u64, s: &[u8], out: &mut [u8; 80]) -> usize
-    ensures { λ r. ⌜ Written (now (out .entry)) 0 80 (rowOf number (now (s .entry))) (now (out .exit)) r ⌝ }
+// The row of record `number`, whose reference is s: the index behind it. Any line of the listing fits 80.
+fn put_row(number: u64, s: &[u8], table: &mut [u32], out: &mut [u8], at: usize) -> usize
+    requires { ⌜ (length (now table) ≡ 490) × (at + 80 ≤ length (now out)) ⌝ }
+    ensures { λ r. ⌜ Written (now (out .entry)) at 80 (rowOf number (now (s .entry))) (now (out .exit)) r ⌝ }
 {
-    let size = put_decimal(out, 0, number);
+    let size = put_decimal(out, at, number);
     let gap = put_spaced(out, size, s.len() as u64);
     let kind = put_octet(out, gap, b' ');
-    let end = put_answer(s, out, kind);
+    let end = put_answer(s, table, out, kind);
     put_octet(out, end, b'\n')
+}
+
+// How far the rows of a block go: the records before `next` are listed, `seen` in all, in the first `used` octets of a page. The page is full, or
+// no whole record stands at `next`.
+pub struct Rows {
+    pub next: usize,
+    pub seen: u64,
+    pub used: usize,
+    pub is_full: bool,
+}
+
+// The rows of the records that stand whole in a block from `at` on, after `seen` others, as many as surely fit the page.
+pub fn put_rows(block: &[u8], at: usize, seen: u64, table: &mut [u32], page: &mut [u8]) -> Rows
+    requires { ⌜ (at ≤ length (now block)) × (seen + length (now block) < 0x10000000000000000) × (length (now table) ≡ 490) × (length (now page) < 0x8000000000000000) ⌝ }
+    ensures { λ r. ⌜ Listed (now (block .entry)) at seen (now (page .exit)) r ⌝ }
+{
+    let room = page.len();
+    let mut next = at;
+    let mut count = seen;
+    let mut used: usize = 0;
+    while used + 80 <= room {
+        let Record::Got { start, stop } = record_at(block, next) else {
+            return Rows {
+                next,
+                seen: count,
+                used,
+                is_full: false,
+            };
+        };
+        count += 1;
+        used = put_row(count, &block[start..stop], table, page, used);
+        next = stop;
+    }
+    Rows {
+        next,
+        seen: count,
+        used,
+        is_full: true,
+    }
 }
 
 // The listing's first line, and its last, after so many records or where a mark is wrong or a record cut.

@@ -1,21 +1,22 @@
 // The guide's program: reads a reference, looks at its tables, asks the questions, and writes it anew; and the same by a table that it lends.
+// Each function that says something answers whether it could be written.
 use libc::STDOUT_FILENO;
+use outcome::tell_written;
 use questions::FirstBiop;
 use questions::ObjectKind;
 use reference::Answer;
 use reference::ObjectLocation;
+use reference::Refusal;
 use reference::Tables;
 use reference::TaggedProfile;
 use reference::View;
 
-fn say(text: &[u8]) {
-    io::write_all(STDOUT_FILENO, text);
+fn say(text: &[u8]) -> bool {
+    io::write_all(STDOUT_FILENO, text)
 }
 
-fn say_number(text: &[u8], n: u64) {
-    say(text);
-    io::print_decimal(STDOUT_FILENO, n);
-    say(b"\n");
+fn say_number(text: &[u8], n: u64) -> bool {
+    say(text) && io::print_decimal(STDOUT_FILENO, n) && say(b"\n")
 }
 
 fn wide(x: u8) -> u64 {
@@ -26,25 +27,28 @@ fn long(x: u32) -> u64 {
     x as u64
 }
 
-fn say_octets(s: &[u8]) {
+fn say_octets(s: &[u8]) -> bool {
     let mut i = 0;
     while i < s.len() {
-        io::print_hex(STDOUT_FILENO, wide(s[i]), 2);
+        if !io::print_hex(STDOUT_FILENO, wide(s[i]), 2) {
+            return false;
+        }
         i += 1;
     }
-    say(b"\n");
+    say(b"\n")
 }
 
 // What a view shows: its octets in the caller's slice. The views of an accepted reading lie within it.
-fn show(s: &[u8], v: View) {
+fn show(s: &[u8], v: View) -> bool {
     let at = v.at as usize;
     let stop = at + v.len as usize;
-    if stop <= s.len() {
-        say_octets(&s[at..stop]);
+    if s.len() < stop {
+        return true;
     }
+    say_octets(&s[at..stop])
 }
 
-fn say_kind(type_id: &[u8]) {
+fn say_kind(type_id: &[u8]) -> bool {
     match ior::object_kind(type_id) {
         ObjectKind::Directory => say(b"kind dir\n"),
         ObjectKind::File => say(b"kind fil\n"),
@@ -55,16 +59,16 @@ fn say_kind(type_id: &[u8]) {
     }
 }
 
-fn say_location(s: &[u8], l: ObjectLocation) {
-    say_number(b"carousel ", l.carousel as u64);
-    say_number(b"module ", l.module as u64);
-    say(b"key ");
+fn say_location(s: &[u8], l: ObjectLocation) -> bool {
     let key = l.key;
-    show(s, key);
+    say_number(b"carousel ", l.carousel as u64)
+        && say_number(b"module ", l.module as u64)
+        && say(b"key ")
+        && show(s, key)
 }
 
 // Which module the reference names: the location of its first BIOP profile.
-fn say_where(s: &[u8], t: Tables) {
+fn say_where(s: &[u8], t: Tables) -> bool {
     if let FirstBiop::At(i) = ior::first_biop(t) {
         if i < 8 {
             let p = t.profiles[i];
@@ -74,14 +78,15 @@ fn say_where(s: &[u8], t: Tables) {
                 taps: _,
                 extras: _,
             } = body {
-                say_location(s, location);
+                return say_location(s, location);
             }
         }
     }
+    true
 }
 
 // Writes the tables over the octets that they were read from.
-fn write_anew(s: &[u8], t: Tables) {
+fn write_anew(s: &[u8], t: Tables) -> bool {
     let mut out = [0u8; 64];
     match ior::write(t, s, &mut out) {
         Answer::Count(n) => say_number(b"written ", n as u64),
@@ -89,60 +94,73 @@ fn write_anew(s: &[u8], t: Tables) {
     }
 }
 
-fn read_and_say(s: &[u8]) {
+// A refusal's number, its place and its two figures. 2 has no place: its figures tell what was declared and what there was.
+fn say_refusal(why: Refusal) -> bool {
+    let is_said = say_number(b"refusal ", wide(why.number))
+        && (why.place == 0 || say_number(b"place ", wide(why.place)));
+    is_said
+        && say_number(b"first figure ", why.first as u64)
+        && say_number(b"second figure ", why.second as u64)
+}
+
+fn read_and_say(s: &[u8]) -> bool {
     let r = ior::read_leading(s);
     let answer = r.answer;
     let tables = r.tables;
     match answer {
         Answer::Count(n) => {
-            say_number(b"read ", n as u64);
-            say_where(s, tables);
-            write_anew(s, tables);
+            say_number(b"read ", n as u64) && say_where(s, tables) && write_anew(s, tables)
         }
-        Answer::Refused(why) => {
-            say_number(b"refusal ", wide(why.number));
-            say_number(b"place ", wide(why.place));
-            say_number(b"first figure ", why.first as u64);
-            say_number(b"second figure ", why.second as u64);
-        }
+        Answer::Refused(why) => say_refusal(why),
     }
 }
 
-fn say_answer(text: &[u8], answer: Answer) {
-    say(text);
+fn say_answer(text: &[u8], answer: Answer) -> bool {
     match answer {
-        Answer::Count(n) => say_number(b" ", n as u64),
-        Answer::Refused(r) => say_number(b" refusal ", wide(r.number)),
+        Answer::Count(n) => say(text) && say_number(b" ", n as u64),
+        Answer::Refused(r) => say(text) && say_number(b" refusal ", wide(r.number)),
     }
 }
 
-// The same by a table that the caller lends, whatever it held before: number 8 is the module of the first profile. A module that is wider
-// than its two octets is refused, and not cut: 65578 would be written as 42.
-fn lend_a_table(s: &[u8]) {
+// A module that is wider than its two octets is refused, and not cut: 65578 would be written as 42.
+fn write_too_wide(s: &[u8], table: &mut [u32; 490]) -> bool {
+    let mut out = [0u8; 64];
+    table[8] = 65578;
+    let length = ior::length_from(table, s);
+    let written = ior::write_from(table, s, &mut out);
+    say_answer(b"lent, too wide: length", length) && say_answer(b"lent, too wide: written", written)
+}
+
+// The same by a table that the caller lends, whatever it held before: number 8 is the module of the first profile.
+fn lend_a_table(s: &[u8]) -> bool {
     let mut table = [0xA5A5A5A5u32; 490];
     let mut out = [0u8; 64];
-    say_answer(b"lent: read", ior::read_whole_into(s, &mut table));
-    say_number(b"lent: module ", long(table[8]));
-    say_answer(b"lent: written", ior::write_from(&table, s, &mut out));
-    table[8] = 65578;
-    say_answer(b"lent, too wide: length", ior::length_from(&table, s));
-    say_answer(
-        b"lent, too wide: written",
-        ior::write_from(&table, s, &mut out),
-    );
+    let read = ior::read_whole_into(s, &mut table);
+    let written = ior::write_from(&table, s, &mut out);
+    say_answer(b"lent: read", read)
+        && say_number(b"lent: module ", long(table[8]))
+        && say_answer(b"lent: written", written)
+        && write_too_wide(s, &mut table)
+}
+
+// Of the same reference: a profile that declares 24 octets where 10 are left, and a profile's header that is cut.
+fn refusals() -> bool {
+    read_and_say(
+        b"\x00\x00\x00\x04\x73\x72\x67\x00\x00\x00\x00\x01\x49\x53\x4F\x06\x00\x00\x00\x18\x00\x02\x49\x53\x4F\x50\x0B\x00\x00\x00",
+    )
+        && read_and_say(b"\x00\x00\x00\x04\x73\x72\x67\x00\x00\x00\x00\x01\x49\x53\x4F\x06")
 }
 
 // A service gateway's reference with one BIOP profile, whose key has two octets.
 fn main() {
-    read_and_say(
-        b"\x00\x00\x00\x04\x73\x72\x67\x00\x00\x00\x00\x01\x49\x53\x4F\x06\x00\x00\x00\x18\x00\x02\x49\x53\x4F\x50\x0B\x00\x00\x00\x07\x00\x2A\x01\x00\x02\xC0\xDE\x49\x53\x4F\x40\x01\x00",
-    );
-    say_kind(b"srg\x00");
-    lend_a_table(
-        b"\x00\x00\x00\x04\x73\x72\x67\x00\x00\x00\x00\x01\x49\x53\x4F\x06\x00\x00\x00\x18\x00\x02\x49\x53\x4F\x50\x0B\x00\x00\x00\x07\x00\x2A\x01\x00\x02\xC0\xDE\x49\x53\x4F\x40\x01\x00",
-    );
-    // The same, cut in the middle of its profile: a header that lies is refused, with the place and the figures.
-    read_and_say(
-        b"\x00\x00\x00\x04\x73\x72\x67\x00\x00\x00\x00\x01\x49\x53\x4F\x06\x00\x00\x00\x18\x00\x02\x49\x53\x4F\x50\x0B\x00\x00\x00",
+    tell_written(
+        read_and_say(
+            b"\x00\x00\x00\x04\x73\x72\x67\x00\x00\x00\x00\x01\x49\x53\x4F\x06\x00\x00\x00\x18\x00\x02\x49\x53\x4F\x50\x0B\x00\x00\x00\x07\x00\x2A\x01\x00\x02\xC0\xDE\x49\x53\x4F\x40\x01\x00",
+        )
+            && say_kind(b"srg\x00")
+            && lend_a_table(
+                b"\x00\x00\x00\x04\x73\x72\x67\x00\x00\x00\x00\x01\x49\x53\x4F\x06\x00\x00\x00\x18\x00\x02\x49\x53\x4F\x50\x0B\x00\x00\x00\x07\x00\x2A\x01\x00\x02\xC0\xDE\x49\x53\x4F\x40\x01\x00",
+            )
+            && refusals(),
     );
 }

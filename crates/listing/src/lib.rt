@@ -1,108 +1,126 @@
-// The listing of a cache that comes from a file descriptor, to standard output. Octets go in and out here, a record at a time; what they
-// mean and what a line says is decided in crate cache.
-use cache::Record;
+// The listing of a cache that comes from a file descriptor, to standard output, in blocks. What octets mean and what a line says is decided in
+// crate cache, how they come in crate intake.
 use cache::announced_by;
 use cache::put_broken;
 use cache::put_end;
 use cache::put_heading;
-use cache::put_row;
-use cache::record_at;
+use cache::put_rows;
+use intake::Came;
+use intake::refill;
 use libc::STDOUT_FILENO;
+use outcome::Outcome;
 ghost use Prim.Native.Nat.{_+_, _≤_, _<_};
 ghost use lib.ListN.{length};
+ghost use mathlib.Core.Path.{_≡_};
 
-// A record at its longest: mark, length and 65,535 octets.
-const RECORD: usize = 65539;
+// Octets of input held at once: four records at their longest and some.
+const ROOM: usize = 262144;
+
+// Octets of text held at once.
+const PAGE: usize = 65536;
 
 // The largest offset that a file can have.
 const FARTHEST: u64 = 0x7FFFFFFFFFFFFFFF;
 
-// Reads as many octets as a record's first four announce, behind them: how many there are then.
-fn fetch_rest(fd: i32, room: &mut [u8]) -> usize
-    requires { ⌜ 65539 ≤ length (now room) ⌝ }
-    ensures { λ r. ⌜ r ≤ 65539 ⌝ }
+fn write_start(text: &[u8], n: usize) -> bool
+    requires { ⌜ n ≤ length (now text) ⌝ }
 {
-    let end = 4 + announced_by(&room[..4]) as usize;
-    let more = io::read_full(fd, &mut room[4..end]);
-    4 + more
+    io::write_all(STDOUT_FILENO, &text[..n])
 }
 
-// Reads a record into the start of `room`: how many octets came.
-fn fetch(fd: i32, room: &mut [u8]) -> usize
-    requires { ⌜ 65539 ≤ length (now room) ⌝ }
-    ensures { λ r. ⌜ r ≤ 65539 ⌝ }
-{
-    let got = io::read_full(fd, &mut room[..4]);
-    if got < 4 {
-        return got;
-    }
-    fetch_rest(fd, room)
-}
-
-fn write_start(line: &[u8], n: usize)
-    requires { ⌜ n ≤ length (now line) ⌝ }
-{
-    io::write_all(STDOUT_FILENO, &line[..n]);
-}
-
-fn write_line(line: &[u8; 80], n: usize)
+fn write_line(line: &[u8; 80], n: usize) -> bool
     requires { ⌜ n ≤ 80 ⌝ }
 {
-    write_start(line, n);
+    write_start(line, n)
 }
 
-// Lists the record s, which stands at `at` and comes after `seen` others: how many octets it has, or 0 where the listing ends.
-fn list_record(s: &[u8], seen: u64, at: u64) -> usize
-    requires { ⌜ seen < 0x7FFFFFFFFFFFFFFF ⌝ }
-    ensures { λ r. ⌜ r ≤ length (now (s .entry)) ⌝ }
-{
-    let mut line = [0u8; 80];
-    match record_at(s, 0) {
-        Record::Got { start, stop } => {
-            let k = put_row(seen + 1, &s[start..stop], &mut line);
-            write_line(&line, k);
-            stop
-        }
-        Record::Broken => {
-            let k = put_broken(at, &mut line);
-            write_line(&line, k);
-            0
-        }
-        Record::End => {
-            let k = put_end(seen, &mut line);
-            write_line(&line, k);
-            0
-        }
-    }
-}
-
-// Fetches and lists one record.
-fn list_one(fd: i32, room: &mut [u8], seen: u64, at: u64) -> usize
-    requires { ⌜ (65539 ≤ length (now room)) × (seen < 0x7FFFFFFFFFFFFFFF) ⌝ }
-    ensures { λ r. ⌜ r ≤ 65539 ⌝ }
-{
-    let n = fetch(fd, room);
-    list_record(&room[..n], seen, at)
-}
-
-fn write_heading() {
+fn write_heading() -> bool {
     let mut line = [0u8; 80];
     let k = put_heading(&mut line);
-    write_line(&line, k);
+    write_line(&line, k)
 }
 
-// Lists what comes from `fd`, however long it is. A read that fails counts as the end.
-pub fn list(fd: i32) {
-    let mut room = [0u8; RECORD];
-    write_heading();
-    let mut seen: u64 = 0;
-    let mut at: u64 = 0;
-    while at < FARTHEST {
-        let n = list_one(fd, &mut room, seen, at);
-        if n == 0 {
-            return;
-        }
-        at += n as u64;
-        seen += 1;
+fn last(written: bool, outcome: Outcome) -> Outcome {
+    if written {
+        return outcome;
     }
+    Outcome::NotWritten
+}
+
+fn end_whole(seen: u64) -> Outcome {
+    let mut line = [0u8; 80];
+    let k = put_end(seen, &mut line);
+    last(write_line(&line, k), Outcome::Done)
+}
+
+fn end_broken(at: u64) -> Outcome {
+    let mut line = [0u8; 80];
+    let k = put_broken(at, &mut line);
+    last(write_line(&line, k), Outcome::Broken)
+}
+
+// The last line, where nothing more comes behind `left` octets that are no record. A read that failed says nothing of where the cache ends.
+fn end(is_failure: bool, left: usize, seen: u64, at: u64) -> Outcome {
+    if is_failure {
+        return Outcome::NotRead;
+    }
+    if left == 0 {
+        return end_whole(seen);
+    }
+    end_broken(at)
+}
+
+// More octets behind those from `from` to before `to`, which are no whole record: none behind a wrong mark, which no octet can mend.
+fn fetch(fd: i32, room: &mut [u8], from: usize, to: usize) -> Came
+    requires { ⌜ (from ≤ to) × (to ≤ length (now room)) × (65539 ≤ length (now room)) ⌝ }
+    ensures { λ r. ⌜ to + r .count ≤ from + length (now (room .entry)) ⌝ }
+{
+    if 4 + announced_by(&room[from..to]) as usize <= to - from {
+        return Came {
+            count: 0,
+            is_failure: false,
+        };
+    }
+    refill(fd, room, from, to)
+}
+
+// Lists what comes from `fd`, of which nothing has come yet.
+fn list_blocks(fd: i32, room: &mut [u8], table: &mut [u32], page: &mut [u8]) -> Outcome
+    requires { ⌜ (length (now room) ≡ 262144) × (length (now table) ≡ 490) × (length (now page) ≡ 65536) ⌝ }
+{
+    // `came` octets came so far; those from `from` to before `to` in the room are the last of them, and are not listed yet.
+    let mut came: u64 = 0;
+    let mut from: usize = 0;
+    let mut to: usize = 0;
+    let mut seen: u64 = 0;
+    while came < FARTHEST {
+        let rows = put_rows(&room[..to], from, seen, table, page);
+        if !write_start(page, rows.used) {
+            return Outcome::NotWritten;
+        }
+        from = rows.next;
+        seen = rows.seen;
+        if !rows.is_full {
+            let left = to - from;
+            let more = fetch(fd, room, from, to);
+            if more.count == 0 {
+                return end(more.is_failure, left, seen, came - left as u64);
+            }
+            from = 0;
+            to = left + more.count;
+            came += more.count as u64;
+        }
+    }
+    Outcome::NotRead
+}
+
+// Lists what comes from `fd`, however long it is.
+pub fn list(fd: i32) -> Outcome {
+    let mut room = [0u8; ROOM];
+    let mut table = [0u32; 490];
+    let mut page = [0u8; PAGE];
+    if !write_heading() {
+        return Outcome::NotWritten;
+    }
+    list_blocks(fd, &mut room, &mut table, &mut page)
 }

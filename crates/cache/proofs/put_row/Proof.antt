@@ -1,9 +1,9 @@
 -- `cache::put_row` meets its contract. Number, size, what the reader answered and line end, one after the other. Assumes nothing.
 use mathlib.Core.Path.{refl}
 use native.Mathlib.Omega.{arith}
-use borrow.Author.Needs.{needs}
 use Rattle.text.proofs.Texts.{sized, then, loose}
 use Rattle.cache.specs.Rows.{rowOf}
+use borrow.Author.Needs.{needs}
 use Rattle.cache.proofs.put_row.Statement.{statement}
 use Rattle.cache.proofs.put_row.Tie as tie
 
@@ -22,14 +22,21 @@ put-answer-requires c κs = search needs
 put-octet-requires-2 : tie.Need-put-octet-requires-2
 put-octet-requires-2 c κs = search needs
 
+same-length : tie.Need-same-length
+same-length c = search needs
+
+same-length-2 : tie.Need-same-length-2
+same-length-2 c = search needs
+
 returns : tie.Need-returns
 unfolding rowOf
 returns c =
-    let a = c .before .before in
-    let g = a .before .before in
-    let l = g .before .before in
-    let n = l .before .before in
-    loose (then (then (then (then (n .put-decimal .ensures) (l .put-spaced .ensures)) (sized (g .put-octet .ensures))) (a .put-answer .ensures)) (sized (c .put-octet2 .ensures))) 80 (omega arith) refl
+    let end = c .before .before in
+    let a = end .before .before .before .before .before .before in
+    let gap = a .before .before .before .before .before in
+    let l = gap .before .before .before .before in
+    let n = l .before .before .before .before in
+    loose (then (then (then (then (n .put-decimal .ensures) (l .put-spaced .ensures)) (sized (gap .put-octet .ensures))) (a .put-answer .ensures)) (sized (end .put-octet2 .ensures))) 80 (omega arith) refl
 
 pub put-row-spec : {M : Type 1} → statement M
 put-row-spec =
@@ -40,4 +47,6 @@ put-row-spec =
     put-octet-requires
     put-answer-requires
     put-octet-requires-2
+    same-length
+    same-length-2
     returns)

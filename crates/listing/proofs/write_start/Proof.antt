@@ -1,4 +1,4 @@
--- `listing::write_start` meets its contract. It is a start of the line. Assumes nothing.
+-- `listing::write_start` meets its contract. It is a start of the text. Assumes nothing.
 use mathlib.Core.Path.{sym}
 use native.Mathlib.Omega.{arith}
 use lib.Seq.{length-take-le}
@@ -8,7 +8,7 @@ use Rattle.listing.proofs.write_start.Statement.{statement}
 use Rattle.listing.proofs.write_start.Tie as tie
 
 slice-aggregate-write-all : tie.Need-slice-aggregate-write-all
-slice-aggregate-write-all c = sym (length-take-le (c .before .before .args .n) (now (c .before .before .args .line)) (omega arith))
+slice-aggregate-write-all c = sym (length-take-le (c .before .before .args .n) (now (c .before .before .args .text)) (omega arith))
 
 write-all-requires : tie.Need-write-all-requires
 write-all-requires c κs = search needs

@@ -1,0 +1,69 @@
+// Input from a descriptor into lent slices, in blocks. A read that fails is told apart from the input's end.
+ghost use mathlib.Core.Path.{_≡_};
+ghost use Prim.Native.Nat.{_+_, _-_, _≤_, _<_};
+ghost use lib.ListN.{length};
+ghost use Rattle.io.specs.Counts.{Counts};
+ghost use Rattle.octets.specs.Octets.{part, splice};
+
+// How many octets came. None: the input ended, or the read failed, and then errno says why.
+pub struct Came {
+    pub count: usize,
+    pub is_failure: bool,
+}
+
+// One read to the start of `part`, which is not empty: an empty one would look like the input's end.
+fn read_some(fd: i32, part: &mut [u8]) -> Came
+    requires { ⌜ 0 < length (now part) ⌝ }
+    ensures { λ r. ⌜ Counts (r .count) (now (part .exit)) ⌝ }
+{
+    let got = libc::read(fd, part);
+    Came {
+        count: io::count(got, part),
+        is_failure: got < 0,
+    }
+}
+
+// Reads until `part` is full: fewer octets came if the input ended or a read failed.
+pub fn fill_from(fd: i32, part: &mut [u8]) -> Came
+    ensures { λ r. ⌜ r .count ≤ length (now (part .entry)) ⌝ }
+{
+    let room = part.len();
+    let mut done: usize = 0;
+    while done < room {
+        let came = read_some(fd, &mut part[done..]);
+        if came.count == 0 {
+            return Came {
+                count: done,
+                is_failure: came.is_failure,
+            };
+        }
+        done += came.count;
+    }
+    Came {
+        count: done,
+        is_failure: false,
+    }
+}
+
+// The n octets from `from` on, moved down to `to`.
+fn move_down(room: &mut [u8], from: usize, n: usize, to: usize)
+    requires { ⌜ (to ≤ from) × (from + n ≤ length (now room)) ⌝ }
+    ensures { λ _. ⌜ now (room .exit) ≡ splice (now (room .entry)) to (part (now (room .entry)) from n) ⌝ }
+{
+    let mut i: usize = 0;
+    while i < n {
+        room[to + i] = room[from + i];
+        i += 1;
+    }
+}
+
+// One read behind what stands in `room` from `from` to before `to`, which is moved to the front first: how many octets came behind it.
+pub fn refill(fd: i32, room: &mut [u8], from: usize, to: usize) -> Came
+    requires { ⌜ (from ≤ to) × (to ≤ length (now room)) × (to - from < length (now room)) ⌝ }
+    ensures { λ r. ⌜ (to - from) + r .count ≤ length (now (room .exit)) ⌝ }
+    ensures { λ r. ⌜ part (now (room .exit)) 0 (to - from) ≡ part (now (room .entry)) from (to - from) ⌝ }
+{
+    let kept = to - from;
+    move_down(room, from, kept, 0);
+    read_some(fd, &mut room[kept..])
+}
