@@ -1,12 +1,12 @@
 -- Rows put one after the other into a page: what the page holds and then the lines that are left are the lines from the start. Assumes nothing.
 use Prim.Native.Nat.{ℕ, suc, _+_, _-_, _*_, _≤_, _<_}
-use mathlib.Core.Path.{_≡_, refl, sym, ap, _∙_}
+use mathlib.Core.Path.{_≡_, refl, sym, ap, ap₂, _∙_}
 use mathlib.Core.Bool.{Bool, true, false}
 use mathlib.Core.List.{List, _++_, append-assoc}
 use native.Mathlib.Omega.{arith}
-use lib.ListN.{length, take, drop, length-append}
-use lib.Seq.{length-take-le, take-at}
-use Rattle.octets.specs.Octets.{part, splice}
+use lib.ListN.{length, take, drop, length-append, length-drop}
+use lib.Seq.{length-take-le, take-at, drop-append-add, drop-append-le, take-append-le}
+use Rattle.octets.specs.Octets.{part, be, splice}
 use Rattle.octets.specs.Put.{Put}
 use Rattle.octets.proofs.Splice.{splice-length}
 use Rattle.text.specs.Written.{Written}
@@ -14,7 +14,7 @@ use Rattle.cache.specs.declared.Record.the-variants.{Got}
 use Rattle.cache.specs.declared.Rows.{Rows}
 use Rattle.cache.specs.Records.{recordAt}
 use Rattle.cache.specs.Rows.{rowOf, lineAt, linesFrom, Rowed, Listed}
-use Rattle.cache.proofs.Recorded.{got-stands}
+use Rattle.cache.proofs.Recorded.{got-stands, whole-record}
 
 abbrev pub upTo : ℕ → ℕ → ℕ → Bool → Rows
 upTo next count used full = record { next = next; seen = count; used = used; «is_full» = full }
@@ -33,14 +33,43 @@ put-behind {d} {xs} {e} {at} {r} p =
     let n : length (take at d ++ xs) ≡ r = length-append (take at d) xs ∙ ap (λ (k : ℕ). k + length xs) l ∙ sym (p .next) in
     ap (take r) (p .left ∙ sym (append-assoc (take at d) xs (drop (at + length xs) d))) ∙ take-at (take at d ++ xs) (drop (at + length xs) d) r n
 
--- one record's row, and then the lines behind it
-row-first : (l : List ℕ) (k at n : ℕ) {a b : ℕ} → recordAt l at ≡ Got a b → linesFrom (suc n) l k at ≡ rowOf (suc k) (part l a (b - a)) ++ linesFrom n l (suc k) b
-unfolding linesFrom
-row-first l k at n e = ap (λ r. lineAt r k at (linesFrom n l) l) e
+-- a record that stands whole in a block stands in every file that has the block
+module _ (front l behind : List ℕ) where
+  abbrev file : List ℕ
+  file = front ++ (l ++ behind)
+
+  part-there : (at n : ℕ) → at + n ≤ length l → part file (length front + at) n ≡ part l at n
+  part-there at n h =
+      ap (take n) (drop-append-add front (l ++ behind) at ∙ drop-append-le at l behind (omega arith)) ∙ take-append-le n (drop at l) behind (omega (arith, length-drop at l))
+
+  got-there : (at : ℕ) {a b : ℕ} → recordAt l at ≡ Got a b → recordAt file (length front + at) ≡ Got (length front + a) (length front + b)
+  got-there at {a} {b} e =
+      let s = got-stands l at e in
+      let n : ℕ = be (part l (at + 2) 2) in
+      let start : a ≡ at + 4 = s .start in
+      let stop : b ≡ a + n = s .stop in
+      let room : b ≤ length l = s .room in
+      let long : length file ≡ length front + (length l + length behind) = simp (length-append) refl in
+      let two : length front + at + 2 ≡ length front + (at + 2) = omega arith in
+      let size : be (part file (length front + at + 2) 2) ≡ n = ap (λ (i : ℕ). be (part file i 2)) two ∙ ap be (part-there (at + 2) 2 (omega arith)) in
+      let mark = ap be (part-there at 2 (omega arith)) ∙ s .marked in
+      whole-record file (length front + at) (omega arith) (omega arith) mark (omega arith)
+      ∙ ap₂ (λ (x y : ℕ). Got x y) (omega arith) (omega arith)
+
+  -- its row, and then the lines behind it
+  row-first : (k at n : ℕ) {a b : ℕ} → recordAt l at ≡ Got a b
+      → linesFrom (suc n) file k (length front + at) ≡ rowOf (suc k) (part l a (b - a)) ++ linesFrom n file (suc k) (length front + b)
+  unfolding linesFrom
+  row-first k at n {a} {b} e =
+      let s = got-stands l at e in
+      let size : length front + b - (length front + a) ≡ b - a = omega arith in
+      ap (λ r. lineAt r k (length front + at) (linesFrom n file) file) (got-there at e)
+      ∙ ap (λ (i : ℕ). rowOf (suc k) (part file (length front + a) i) ++ linesFrom n file (suc k) (length front + b)) size
+      ∙ ap (λ (x : List ℕ). rowOf (suc k) x ++ linesFrom n file (suc k) (length front + b)) (part-there a (b - a) (omega (arith, s .room, s .stop)))
 
 module _ (l : List ℕ) (at k : ℕ) where
   pub begun : (page : List ℕ) → at ≤ length l → Rowed l at k page at k 0
-  begun page h = record { inside = h; later = omega arith; apart = omega arith; within = omega arith; short = omega arith; lines = λ n. refl }
+  begun page h = record { inside = h; later = omega arith; apart = omega arith; within = omega arith; short = omega arith; lines = λ front behind n. refl }
 
   module _ {page : List ℕ} {next count used : ℕ} (g : Rowed l at k page next count used) where
     pub when-full : length page < used + 80 → Listed l at k page (upTo next count used true)
@@ -65,10 +94,12 @@ module _ (l : List ℕ) (at k : ℕ) where
           within = omega (arith, w .put .next, w .put .room, long);
           short = omega (arith, w .within);
           lines =
-              λ n.
-              (ap (λ (i : ℕ). linesFrom i l k at) (omega arith) ∙ g .lines (n + 1) ∙ ap (λ (i : ℕ). take used page ++ linesFrom i l count next) (omega arith)
-              ∙ ap (λ (x : List ℕ). take used page ++ x) (row-first l count next (n + k) e)
-              ∙ ap (λ (i : ℕ). take used page ++ (rowOf i (part l a (b - a)) ++ linesFrom (n + k) l i b)) (omega arith)
-              ∙ sym (append-assoc (take used page) row (linesFrom (n + k) l (count + 1) b))
-              ∙ ap (λ (x : List ℕ). x ++ linesFrom (n + k) l (count + 1) b) (sym (put-behind (w .put))));
+              λ front behind n.
+              (let f = front ++ (l ++ behind) in
+              ap (λ (i : ℕ). linesFrom i f k (length front + at)) (omega arith) ∙ g .lines front behind (n + 1)
+              ∙ ap (λ (i : ℕ). take used page ++ linesFrom i f count (length front + next)) (omega arith)
+              ∙ ap (λ (x : List ℕ). take used page ++ x) (row-first front l behind count next (n + k) e)
+              ∙ ap (λ (i : ℕ). take used page ++ (rowOf i (part l a (b - a)) ++ linesFrom (n + k) f i (length front + b))) (omega arith)
+              ∙ sym (append-assoc (take used page) row (linesFrom (n + k) f (count + 1) (length front + b)))
+              ∙ ap (λ (x : List ℕ). x ++ linesFrom (n + k) f (count + 1) (length front + b)) (sym (put-behind (w .put))));
         }

@@ -68,14 +68,16 @@ unfoldable pub listed : List ℕ → List ℕ
 listed l = heading ++ linesFrom (suc (length l)) l 0 0
 
 -- The rows of the records of the block l from `at` on, after k records, fill the first `used` octets of a page, up to record `seen`, which ends before `next`:
--- what the page holds, and then the lines from `next` on, are the lines from `at` on. A row has at most 80 octets, a record at least one.
+-- in every file that has this block, what the page holds and then the lines from `next` on are the lines from `at` on. A row has at most 80 octets, a record
+-- at least one.
 pub record Rowed (l : List ℕ) (at k : ℕ) (page : List ℕ) (next seen used : ℕ) : Type 0 where
   pub inside : next ≤ length l
   pub later : k ≤ seen
   pub apart : seen + at ≤ next + k
   pub within : used ≤ length page
   pub short : used + 80 * k ≤ 80 * seen
-  pub lines : (n : ℕ) → linesFrom (n + seen) l k at ≡ take used page ++ linesFrom (n + k) l seen next
+  pub lines : (front behind : List ℕ) (n : ℕ)
+      → linesFrom (n + seen) (front ++ (l ++ behind)) k (length front + at) ≡ take used page ++ linesFrom (n + k) (front ++ (l ++ behind)) seen (length front + next)
 
 -- Such rows, as far as r says: the page is full, so that no row more surely fits, or no whole record stands next.
 pub record Listed (l : List ℕ) (at k : ℕ) (page : List ℕ) (r : Rows) : Type 0 where
