@@ -35,9 +35,11 @@ pub use profiles::{BiopProfile, Extras, LiteOptionsProfile, Names, Profiles, Tag
 pub use refusal::Refusal;
 
 use calls::{Answer, Table, ANSWER, TABLE};
+use core::fmt;
+use core::hash::{Hash, Hasher};
 
 /// What an object is, by its type id.
-#[derive(Clone, Copy, Debug, PartialEq, Eq)]
+#[derive(Clone, Copy, Debug, PartialEq, Eq, Hash)]
 pub enum ObjectKind {
     /// `dir`
     Directory,
@@ -85,7 +87,7 @@ pub fn is_dvb_address(address: &[u8; 20]) -> bool {
 }
 
 /// A tap of a ConnBinder.
-#[derive(Clone, Copy, Debug, PartialEq, Eq)]
+#[derive(Clone, Copy, Debug, PartialEq, Eq, Hash)]
 pub struct Tap<'a> {
     /// The tap's id.
     pub id: u16,
@@ -120,7 +122,7 @@ impl Tap<'_> {
 }
 
 /// Where an object stands in a carousel.
-#[derive(Clone, Copy, Debug, PartialEq, Eq)]
+#[derive(Clone, Copy, Debug, PartialEq, Eq, Hash)]
 pub struct ObjectLocation<'a> {
     /// The carousel.
     pub carousel_id: u32,
@@ -135,7 +137,7 @@ pub struct ObjectLocation<'a> {
 }
 
 /// The address of a service; its constants are not kept.
-#[derive(Clone, Copy, Debug, PartialEq, Eq)]
+#[derive(Clone, Copy, Debug, PartialEq, Eq, Hash)]
 pub struct NsapAddress {
     /// The carousel.
     pub carousel_id: u32,
@@ -150,7 +152,7 @@ pub struct NsapAddress {
 }
 
 /// A name's id and kind.
-#[derive(Clone, Copy, Debug, PartialEq, Eq)]
+#[derive(Clone, Copy, Debug, PartialEq, Eq, Hash)]
 pub struct NameComponent<'a> {
     /// The id.
     pub id: &'a [u8],
@@ -159,7 +161,7 @@ pub struct NameComponent<'a> {
 }
 
 /// A component beyond those that each profile has.
-#[derive(Clone, Copy, Debug, PartialEq, Eq)]
+#[derive(Clone, Copy, Debug, PartialEq, Eq, Hash)]
 pub struct LiteComponent<'a> {
     /// Its tag.
     pub tag: u32,
@@ -174,7 +176,17 @@ fn shown<'a>(source: &'a [u8], view: &[u32]) -> &'a [u8] {
 }
 
 /// A reference that was read: the source's octets, and a table of what stands where.
-#[derive(Clone, Debug, PartialEq, Eq)]
+///
+/// Two references are equal if they say the same: the octets of the type id, and the profiles in their order, each with its numbers and octets. Where
+/// those octets stand, and what stands behind the reference, makes no difference.
+///
+/// ```
+/// let (one, _) = ior::Reference::read(&[0, 0, 0, 0, 0, 0, 0, 0, 1]).unwrap();
+/// let (other, _) = ior::Reference::read(&[0, 0, 0, 0, 0, 0, 0, 0, 2]).unwrap();
+/// assert_eq!(one, other);
+/// assert_eq!(format!("{one:?}"), "Reference { type_id: [], object_kind: Unknown([0, 0, 0, 0]), profiles: [] }");
+/// ```
+#[derive(Clone)]
 pub struct Reference<'a> {
     source: &'a [u8],
     table: Table,
@@ -248,8 +260,33 @@ impl<'a> Reference<'a> {
     }
 }
 
-/// A name component with lengths of one octet, as BIOP messages have it.
-#[derive(Clone, Copy, Debug, PartialEq, Eq)]
+impl PartialEq for Reference<'_> {
+    fn eq(&self, other: &Self) -> bool {
+        self.type_id() == other.type_id() && self.profiles().eq(other.profiles())
+    }
+}
+
+impl Eq for Reference<'_> {}
+
+impl Hash for Reference<'_> {
+    fn hash<H: Hasher>(&self, state: &mut H) {
+        self.type_id().hash(state);
+        profiles::hash_all(self.profiles(), state);
+    }
+}
+
+impl fmt::Debug for Reference<'_> {
+    fn fmt(&self, f: &mut fmt::Formatter<'_>) -> fmt::Result {
+        f.debug_struct("Reference")
+            .field("type_id", &self.type_id())
+            .field("object_kind", &self.object_kind())
+            .field("profiles", &self.profiles())
+            .finish()
+    }
+}
+
+/// A name component with lengths of one octet, as BIOP messages have it. Two are equal if their ids are and their kinds are.
+#[derive(Clone, Copy)]
 pub struct ShortName<'a> {
     source: &'a [u8],
     views: [u32; 4],
@@ -279,5 +316,26 @@ impl<'a> ShortName<'a> {
         let mut answer: Answer = [0; ANSWER];
         let result = calls::name_write(&self.views, self.source, out, &mut answer);
         Refusal::checked(result, &answer)
+    }
+}
+
+impl PartialEq for ShortName<'_> {
+    fn eq(&self, other: &Self) -> bool {
+        self.parts() == other.parts()
+    }
+}
+
+impl Eq for ShortName<'_> {}
+
+impl Hash for ShortName<'_> {
+    fn hash<H: Hasher>(&self, state: &mut H) {
+        self.parts().hash(state);
+    }
+}
+
+impl fmt::Debug for ShortName<'_> {
+    fn fmt(&self, f: &mut fmt::Formatter<'_>) -> fmt::Result {
+        let NameComponent { id, kind } = self.parts();
+        f.debug_struct("ShortName").field("id", &id).field("kind", &kind).finish()
     }
 }

@@ -1,6 +1,9 @@
-//! The profiles of a reference and their entries, as iterators over its table.
+//! The profiles of a reference and their entries, as iterators over its table. Profiles are compared, hashed and shown by what they say, never by where it
+//! stands.
 
 use crate::{shown, LiteComponent, NameComponent, NsapAddress, ObjectLocation, Reference, Tap};
+use core::fmt;
+use core::hash::{Hash, Hasher};
 use core::iter::FusedIterator;
 use core::ops::Range;
 
@@ -17,8 +20,14 @@ impl<'a> Reference<'a> {
     }
 }
 
+/// How many there are, and each of them: what is equal entry by entry has equal hashes.
+pub(crate) fn hash_all<H: Hasher>(items: impl ExactSizeIterator<Item: Hash>, state: &mut H) {
+    items.len().hash(state);
+    items.for_each(|item| item.hash(state));
+}
+
 /// One profile.
-#[derive(Clone, Copy, Debug)]
+#[derive(Clone, Copy, Debug, PartialEq, Eq, Hash)]
 pub enum TaggedProfile<'r, 'a> {
     /// Tag 49534F06.
     Biop(BiopProfile<'r, 'a>),
@@ -34,7 +43,7 @@ pub enum TaggedProfile<'r, 'a> {
 }
 
 /// A BIOP profile.
-#[derive(Clone, Copy, Debug)]
+#[derive(Clone, Copy)]
 pub struct BiopProfile<'r, 'a> {
     reference: &'r Reference<'a>,
     index: usize,
@@ -70,8 +79,34 @@ impl<'r, 'a> BiopProfile<'r, 'a> {
     }
 }
 
+impl PartialEq for BiopProfile<'_, '_> {
+    fn eq(&self, other: &Self) -> bool {
+        self.object_location() == other.object_location() && self.taps().eq(other.taps()) && self.extras().eq(other.extras())
+    }
+}
+
+impl Eq for BiopProfile<'_, '_> {}
+
+impl Hash for BiopProfile<'_, '_> {
+    fn hash<H: Hasher>(&self, state: &mut H) {
+        self.object_location().hash(state);
+        hash_all(self.taps(), state);
+        hash_all(self.extras(), state);
+    }
+}
+
+impl fmt::Debug for BiopProfile<'_, '_> {
+    fn fmt(&self, f: &mut fmt::Formatter<'_>) -> fmt::Result {
+        f.debug_struct("BiopProfile")
+            .field("object_location", &self.object_location())
+            .field("taps", &self.taps())
+            .field("extras", &self.extras())
+            .finish()
+    }
+}
+
 /// A LiteOptions profile.
-#[derive(Clone, Copy, Debug)]
+#[derive(Clone, Copy)]
 pub struct LiteOptionsProfile<'r, 'a> {
     reference: &'r Reference<'a>,
     index: usize,
@@ -113,8 +148,39 @@ impl<'r, 'a> LiteOptionsProfile<'r, 'a> {
     }
 }
 
+impl PartialEq for LiteOptionsProfile<'_, '_> {
+    fn eq(&self, other: &Self) -> bool {
+        self.service_domain() == other.service_domain()
+            && self.path().eq(other.path())
+            && self.initial_context() == other.initial_context()
+            && self.extras().eq(other.extras())
+    }
+}
+
+impl Eq for LiteOptionsProfile<'_, '_> {}
+
+impl Hash for LiteOptionsProfile<'_, '_> {
+    fn hash<H: Hasher>(&self, state: &mut H) {
+        self.service_domain().hash(state);
+        hash_all(self.path(), state);
+        self.initial_context().hash(state);
+        hash_all(self.extras(), state);
+    }
+}
+
+impl fmt::Debug for LiteOptionsProfile<'_, '_> {
+    fn fmt(&self, f: &mut fmt::Formatter<'_>) -> fmt::Result {
+        f.debug_struct("LiteOptionsProfile")
+            .field("service_domain", &self.service_domain())
+            .field("path", &self.path())
+            .field("initial_context", &self.initial_context())
+            .field("extras", &self.extras())
+            .finish()
+    }
+}
+
 /// The profiles of a reference.
-#[derive(Clone, Debug)]
+#[derive(Clone)]
 pub struct Profiles<'r, 'a> {
     reference: &'r Reference<'a>,
     left: Range<usize>,
@@ -161,10 +227,17 @@ impl<'r, 'a> Iterator for Profiles<'r, 'a> {
 impl ExactSizeIterator for Profiles<'_, '_> {}
 impl FusedIterator for Profiles<'_, '_> {}
 
+/// Those that are left.
+impl fmt::Debug for Profiles<'_, '_> {
+    fn fmt(&self, f: &mut fmt::Formatter<'_>) -> fmt::Result {
+        f.debug_list().entries(self.clone()).finish()
+    }
+}
+
 macro_rules! entries {
     ($(#[$what:meta])* $name:ident, $item:ident, $region:expr, $made:expr) => {
         $(#[$what])*
-        #[derive(Clone, Debug)]
+        #[derive(Clone)]
         pub struct $name<'r, 'a> {
             reference: &'r Reference<'a>,
             left: Range<usize>,
@@ -186,6 +259,13 @@ macro_rules! entries {
 
         impl ExactSizeIterator for $name<'_, '_> {}
         impl FusedIterator for $name<'_, '_> {}
+
+        /// Those that are left.
+        impl fmt::Debug for $name<'_, '_> {
+            fn fmt(&self, f: &mut fmt::Formatter<'_>) -> fmt::Result {
+                f.debug_list().entries(self.clone()).finish()
+            }
+        }
     };
 }
 

@@ -10,7 +10,7 @@ use core::fmt;
 /// assert_eq!((why.number, why.place), (4, 33));
 /// assert_eq!(why.to_string(), "out of range: the type id's length (refusal 4)");
 /// ```
-#[derive(Clone, Copy, Debug, PartialEq, Eq)]
+#[derive(Clone, Copy, Debug, PartialEq, Eq, Hash)]
 pub struct Refusal {
     /// 1 to 10.
     pub number: u8,

@@ -1,6 +1,7 @@
 //! References on both sides of a line, entries as slices of the caller's octets, and damaged and random octets.
 
 use ior::{is_dvb_address, object_kind, ObjectKind, Reference, Refusal, ShortName, TaggedProfile};
+use std::hash::{DefaultHasher, Hash, Hasher};
 
 const J: [u8; 42] = [
     0, 0, 0, 4, 0x73, 0x72, 0x67, 0, 0, 0, 0, 1, 0x49, 0x53, 0x4F, 0x06, 0, 0, 0, 0x16, 0, 2, 0x49, 0x53, 0x4F, 0x50, 9, 0, 0,
@@ -117,6 +118,87 @@ fn what_is_written_is_what_was_read() {
     }
 }
 
+fn read(octets: &[u8]) -> Reference<'_> {
+    Reference::read(octets).expect("accepted").0
+}
+
+fn hash(of: impl Hash) -> u64 {
+    let mut state = DefaultHasher::new();
+    of.hash(&mut state);
+    state.finish()
+}
+
+#[test]
+fn equal_is_what_says_the_same() {
+    for whole in [rich(), J.to_vec(), vec![0; 8]] {
+        let (one, other) = ([&whole[..], &[1]].concat(), [&whole[..], &[2]].concat());
+        assert_eq!(read(&one), read(&other), "octets behind the reference");
+        assert_eq!(hash(read(&one)), hash(read(&other)));
+        let twice = [&whole[..], &whole].concat();
+        assert_eq!(read(&twice), read(&twice[whole.len()..]), "the same octets elsewhere");
+        assert_eq!(read(&twice), Reference::read_whole(&whole).unwrap());
+    }
+}
+
+/// The seven constants of an address are not kept; every other octet of a reference that may change without a refusal changes what it says.
+#[test]
+fn each_octet_tells() {
+    let whole = rich();
+    let address = whole.windows(5).position(|five| five == [20, 0, 0, 0, 0]).unwrap() + 1;
+    let constants = [0, 1, 6, 16, 17, 18, 19].map(|i| address + i);
+    let mut unequal = 0;
+    for at in 0..whole.len() {
+        let mut changed = whole.clone();
+        changed[at] ^= 0x40;
+        let Ok((reference, _)) = Reference::read(&changed) else { continue };
+        assert_eq!(reference == read(&whole), constants.contains(&at), "octet {at}");
+        unequal += (reference != read(&whole)) as usize;
+    }
+    assert!(unequal > 60);
+}
+
+#[test]
+fn other_profiles_differ() {
+    let whole = rich();
+    let opaque = whole.len() - 11;
+    let mut fewer = whole[..opaque].to_vec();
+    fewer[11] = 2;
+    assert_ne!(read(&fewer), read(&whole), "a profile less");
+    let swapped = |first: &[u8], second: &[u8]| [&[0, 0, 0, 0, 0, 0, 0, 2][..], first, second].concat();
+    let (this, that) = ([0, 0, 0, 9, 0, 0, 0, 1, 5], [0, 0, 0, 9, 0, 0, 0, 1, 6]);
+    assert_ne!(read(&swapped(&this, &that)), read(&swapped(&that, &this)), "another order");
+    assert_eq!(read(&swapped(&this, &this)).profiles().next(), read(&swapped(&this, &that)).profiles().next());
+    // J with a key of one octet.
+    let key = |octet| [&J[..19], &[0x17], &J[20..26], &[10], &J[27..35], &[1, octet], &J[36..]].concat();
+    assert_ne!(read(&key(0xAA)), read(&key(0xAB)), "another key");
+    assert_ne!(read(&key(0xAA)), read(&J), "no key");
+    // J with an extra component of one octet.
+    let extra = |octet| [&J[..19], &[0x1C, 0, 3], &J[22..], &[1, 2, 3, 4, 1, octet]].concat();
+    assert_ne!(read(&extra(5)), read(&extra(6)), "another extra");
+    assert_ne!(read(&extra(5)), read(&J), "no extra");
+    assert_eq!(read(&key(0xAA)).biop_profile(), read(&[&key(0xAA)[..], &[9]].concat()).biop_profile());
+}
+
+#[test]
+fn what_is_shown_is_what_it_says() {
+    let octets = rich();
+    let shown = format!("{:02x?}", read(&octets));
+    for part in [
+        "Reference { type_id: [66, 69, 6c, 00], object_kind: File, profiles: [Biop(BiopProfile { object_location: ObjectLocation {",
+        "object_key: [aa, bb] }, taps: [Tap { id: 01, use_: 16, association_tag: 05, selector: [00, 01, 80, 00, 00, 02, ff, ff, ff, ff] }, Tap {",
+        "extras: [LiteComponent { tag: 1020304, data: [09, 08, 07] }] }), LiteOptions(LiteOptionsProfile { service_domain: NsapAddress {",
+        "path: [NameComponent { id: [6f, 6e, 65], kind: [66, 69, 6c] }, NameComponent { id: [], kind: [64, 69, 72] }], initial_context: [",
+        "Opaque { tag: deadbeef, data: [61, 6e, 79] }] }",
+    ] {
+        assert!(shown.contains(part), "{part}\nnot in\n{shown}");
+    }
+    let reference = read(&octets);
+    let mut profiles = reference.profiles();
+    profiles.nth(1);
+    assert_eq!(format!("{profiles:x?}"), "[Opaque { tag: deadbeef, data: [61, 6e, 79] }]");
+    assert_eq!(format!("{:?}", ShortName::read(&[1, 7, 0, 9]).unwrap().0), "ShortName { id: [7], kind: [] }");
+}
+
 #[test]
 fn large_sources() {
     assert_eq!(refused(&vec![0; 65_536]), (6, 0, 65_536, 65_535));
@@ -133,6 +215,14 @@ fn short_names() {
     let mut out = [0; 6];
     assert_eq!(name.write(&mut out), Ok(5));
     assert_eq!(out, [3, b'a', b'b', b'c', 0, 0]);
+    let equal = |one: &[u8], other: &[u8]| {
+        let (one, other) = (ShortName::read(one).unwrap().0, ShortName::read(other).unwrap().0);
+        assert!(one != other || hash(one) == hash(other));
+        one == other
+    };
+    assert!(equal(&[1, 7, 1, 8, 1], &[1, 7, 1, 8, 2]));
+    assert!(!equal(&[1, 7, 1, 8], &[1, 8, 1, 7]));
+    assert!(!equal(&[2, 7, 8, 0], &[1, 7, 1, 8]));
     assert_eq!(ShortName::read(&[2, 1]).unwrap_err().to_string(), "too long: 2 octets declared, 1 available (refusal 2)");
     assert_eq!(
         ShortName::read(&[]).unwrap_err().to_string(),
