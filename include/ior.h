@@ -1,12 +1,25 @@
 /* Object references (IOP::IOR) of DSM-CC carousels: read, measure, write and ask.
  *
- * Link with libior_c.a. No function allocates, keeps a pointer, prints, or changes anything but the arrays that it is lent for that. Each array
- * is a pointer and a length in elements; an empty one may have any pointer that is not null. Arrays of one call must not overlap.
+ * Link with libior_c.a. No function allocates, prints, keeps a pointer or any state, or changes anything but the arrays that it is lent for that. So calls may
+ * run at once, in several threads, if no array that one of them writes is lent to another of them.
  *
- * A reference's contents are told in a table of 490 numbers (struct ior_table). Octets stay where they are: a view is an offset and a length in
- * the source. An answer is five numbers (struct ior_answer). The result of each function is the refusal's number, 0 for accepted;
- * IOR_NOT_ASKED says that an array has not the length it must have, or that a table that was handed in holds a number wider than its field or an unknown
- * sort in a used entry, and then nothing is changed.
+ * A reference's contents are told in a table of 490 numbers (struct ior_table). Octets stay where they are: a view is an offset and a length in the
+ * source. An answer is five numbers (struct ior_answer): the refusal's number, its place, two figures, and a count.
+ *
+ * What a caller must keep. Each array is a pointer and a length in elements.
+ *   - The pointer is aligned for its elements and valid for as many as the length says: to read, and where it is not const to write.
+ *   - An array that is written (not const) overlaps no other array of the call. Two that are only read may overlap.
+ *   - Nobody else changes an array, or looks at one that is written, while the call runs.
+ *   - An array of length 0 may have any pointer, NULL too: it is never followed, and no rule above is for it.
+ * Nothing more is asked: the arrays may have any lengths and hold anything.
+ *
+ * The result:
+ *   - of ior_kind, a kind: 0 to 5 (IOR_KIND_..);
+ *   - of ior_tap and ior_dvb_address, 1 or 0: yes or no;
+ *   - of all others the refusal's number (IOR_CUT ..), which is the answer's first number too, and 0 (IOR_ACCEPTED) for none;
+ *   - of each of them IOR_NOT_ASKED (255) if an array has not the length that it must have, if the use that ior_tap is given has more than 16 bits, or if the
+ *     table that ior_length, ior_write or ior_first_biop is given is not exact: it holds a number wider than its field, or an unknown sort, in a used entry.
+ *     Then nothing is changed, the answer no more than the rest: test for 255 before you look at it. A table that a reading has filled is exact.
  */
 #ifndef IOR_H
 #define IOR_H
@@ -44,7 +57,7 @@ enum {
     IOR_COUNTS = 8,        /* a used count is above the table's size, or sums disagree */
     IOR_OUTSIDE = 9,       /* a view passes the source's end (offset, length) */
     IOR_IMAGE_LARGE = 10,  /* the image has over 65,535 octets (image, 65535) */
-    IOR_NOT_ASKED = 255    /* an array has another length than it must have, or a table is not exact */
+    IOR_NOT_ASKED = 255    /* an array has another length than it must have, or a table is not exact: nothing is changed, the answer neither */
 };
 
 /* ---- where an answer's numbers stand */
@@ -102,7 +115,7 @@ uint32_t ior_write(const uint32_t *table, size_t table_len, const uint8_t *s, si
 enum { IOR_KIND_DIRECTORY = 0, IOR_KIND_FILE = 1, IOR_KIND_STREAM = 2, IOR_KIND_SERVICE_GATEWAY = 3, IOR_KIND_STREAM_EVENT = 4, IOR_KIND_UNKNOWN = 5 };
 
 /* The kind that the octets of a type id name, one of the six above; kind[0] is its four octets as a number, 0 if it has not four octets. kind has one
- * number; of another length: IOR_NOT_ASKED. Never refused otherwise. */
+ * number, else IOR_NOT_ASKED. */
 uint32_t ior_kind(const uint8_t *type_id, size_t n, uint32_t *kind, size_t kind_len);
 
 /* Whether a tap of this use and selector has a transaction id and a timeout: 1, and pair[0] and pair[1] are the two; or 0, and both are 0. pair has
@@ -118,10 +131,11 @@ uint32_t ior_dvb_address(const uint8_t *address, size_t n);
 /* ---- the name component with lengths of one octet */
 
 /* Reads a name at the start of s: answer[4] octets were consumed, and name has four numbers: where the id stands and its length, where the kind stands
- * and its length. Refused (1, 2, 6): both are zero throughout. */
+ * and its length. Refused (1, 2, 6): answer[4] is 0 and name is zero throughout. */
 uint32_t ior_name_read(const uint8_t *s, size_t n, uint32_t *name, size_t name_len, uint64_t *answer, size_t answer_len);
 
-/* Writes the name of these views over the source s at the start of out. Refused (2, 5, 6, 9): no octet of out is changed. */
+/* Writes the name of these views over the source s at the start of out: answer[4] octets were written, and those behind are as they were. Refused (2, 5, 6,
+ * 9): answer[4] is 0 and no octet of out is changed. */
 uint32_t ior_name_write(const uint32_t *name, size_t name_len, const uint8_t *s, size_t n, uint8_t *out, size_t out_len, uint64_t *answer,
                         size_t answer_len);
 

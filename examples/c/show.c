@@ -1,5 +1,10 @@
-/* show FILE: prints what the object reference at the start of FILE says. */
+/* show FILE: prints what the object reference at the start of FILE says; - is standard input. */
 #include "file.h"
+
+static const char usage[] =
+    "usage: show FILE\n"
+    "Prints what the object reference at the start of FILE says; - is standard input.\n"
+    "Status: 0 shown, 1 refused, 2 the file can't be read or the text not written.\n";
 
 static uint8_t source[ROOM];
 static struct ior_table table;
@@ -72,13 +77,21 @@ static void profile(const uint32_t *p) {
 
 int main(int argc, char **argv) {
     long n;
-    if (argc != 2 || (n = file_octets(argv[1], source)) < 0) {
-        fprintf(stderr, "usage: show FILE\n");
-        return 2;
+    uint32_t result;
+    if (argc == 2 && strcmp(argv[1], "--help") == 0) {
+        fputs(usage, stdout);
+        return printed();
     }
-    if (ior_read_into(source, (size_t)n, &table, &answer) != IOR_ACCEPTED) return report(argv[1], &answer);
+    if (argc != 2) {
+        fputs(usage, stderr);
+        return FAILED;
+    }
+    n = file_octets(argv[1], source);
+    if (n < 0) return failed(argv[1], "read");
+    result = ior_read_into(source, (size_t)n, &table, &answer);
+    if (result != IOR_ACCEPTED) return report(argv[1], result, &answer);
     printf("octets %llu of %ld\n", (unsigned long long)answer.number[IOR_ANSWER_COUNT], n);
     kind();
     for (uint32_t i = 0; i < table.number[IOR_PROFILES_USED]; i++) profile(ior_profile_at(&table, i));
-    return 0;
+    return printed();
 }
