@@ -6,7 +6,7 @@ use crate::generate::Generator;
 use crate::listing::list;
 use crate::readable::describe;
 use std::io::{self, BufRead, BufReader, Write};
-use std::process::{Child, Command, Stdio};
+use std::process::{Child, Command, ExitStatus, Stdio};
 use std::sync::mpsc::{sync_channel, Receiver, SyncSender};
 use std::thread;
 
@@ -22,6 +22,17 @@ const WIDTH: usize = 4000;
 
 fn start(program: &str) -> io::Result<Child> {
     Command::new("sh").arg("-c").arg(program).stdin(Stdio::piped()).stdout(Stdio::piped()).spawn()
+}
+
+/// What the shell ends with where a command can't be run: it is there but no program, or it is not there.
+const NOT_RUN: [i32; 2] = [126, 127];
+
+/// A program that printed nothing because it can't be run is no difference: it is an error.
+fn was_run(program: &str, status: ExitStatus, printed: bool) -> io::Result<()> {
+    if !printed && status.code().is_some_and(|code| NOT_RUN.contains(&code)) {
+        return Err(io::Error::other(format!("the program can't be run: {program}")));
+    }
+    Ok(())
 }
 
 /// Octets of some requests.
@@ -73,15 +84,22 @@ struct Comparison<R> {
 }
 
 impl<R: BufRead> Comparison<R> {
-    fn chunk(&mut self, octets: &[u8]) -> io::Result<()> {
-        let (mut expected, mut got) = (Vec::new(), Vec::new());
+    /// Compares the answers to some requests, up to the program's end; whether it has ended.
+    fn chunk(&mut self, octets: &[u8]) -> io::Result<bool> {
+        let (mut expected, mut got, mut ended) = (Vec::new(), Vec::new(), false);
         each_request(octets, |request| {
+            if ended {
+                return Ok(());
+            }
             expected.clear();
             got.clear();
             let answered = answer(&request, &mut expected);
             expected.push(b'\n');
+            if self.output.read_until(b'\n', &mut got)? == 0 {
+                ended = true;
+                return Ok(());
+            }
             self.coverage.count(request.op(), &answered);
-            self.output.read_until(b'\n', &mut got)?;
             if got != expected {
                 self.differences += 1;
                 if self.differences <= SHOWN {
@@ -97,7 +115,13 @@ impl<R: BufRead> Comparison<R> {
             self.index += 1;
             Ok(())
         })?;
-        Ok(())
+        Ok(ended)
+    }
+
+    /// A fault of the whole run.
+    fn fault(&mut self, what: String) {
+        self.differences += 1;
+        println!("{what}");
     }
 }
 
@@ -111,44 +135,65 @@ pub fn compare(program: &str, generator: Generator, count: u64) -> io::Result<us
     thread::spawn(move || feed(input, from_maker));
     thread::spawn(move || make(&generator, count, to_program, to_oracle));
     let mut comparison = Comparison { output, coverage: Coverage::default(), index: 0, differences: 0 };
-    for octets in chunks {
-        comparison.chunk(&octets)?;
+    let mut ended = false;
+    for octets in &chunks {
+        ended = comparison.chunk(&octets)?;
+        if ended {
+            break;
+        }
     }
+    // Whoever still makes requests stops, and the program finds its input ended.
+    drop(chunks);
     let mut behind = Vec::new();
     comparison.output.read_until(b'\n', &mut behind)?;
-    if !behind.is_empty() {
-        comparison.differences += 1;
-        println!("the program prints more lines than there were requests: {}", shortened(&behind));
+    let status = child.wait()?;
+    was_run(program, status, comparison.index > 0 || !behind.is_empty())?;
+    if ended {
+        comparison.fault(format!("request {} and what follows: no line, the program ended with {status}", comparison.index));
+    } else if !behind.is_empty() {
+        comparison.fault(format!("the program prints more lines than there were requests: {}", shortened(&behind)));
+    } else if !status.success() {
+        comparison.fault(format!("the program ended with {status}"));
     }
-    child.wait()?;
     print!("{}", comparison.coverage.report());
     println!("differences {}", comparison.differences);
     Ok(comparison.differences)
 }
 
-/// All that a program prints for an input.
-fn output_of(program: &str, input: Vec<u8>) -> io::Result<Vec<u8>> {
+/// All that a program prints for an input, and its status.
+fn output_of(program: &str, input: Vec<u8>) -> io::Result<(Vec<u8>, ExitStatus)> {
     let mut child = start(program)?;
     let mut pipe = child.stdin.take().expect("a piped input");
     // A program that ends its run early does not take the rest.
     let feeder = thread::spawn(move || pipe.write_all(&input).is_ok());
     let output = child.wait_with_output()?;
     let _ = feeder.join();
-    Ok(output.stdout)
+    was_run(program, output.status, !output.stdout.is_empty())?;
+    Ok((output.stdout, output.status))
 }
 
-/// Runs the program once for each input, and compares the whole output; how many outputs differ.
+/// Whether a run that prints this may end so: with 0, or with 1 where the input is broken. A program by itself ends with 0 always; `bin/program` ends with what
+/// its program tells.
+fn ends_well(status: ExitStatus, printed: &[u8]) -> bool {
+    let last = printed.strip_suffix(b"\n").unwrap_or(printed).rsplit(|octet| *octet == b'\n').next().unwrap_or(&[]);
+    let broken = last.starts_with(b"broken at ") || last == b"bad request";
+    status.success() || broken && status.code() == Some(1)
+}
+
+/// Runs the program once for each input, and compares the whole output and how it ends; how many runs differ.
 fn compare_runs(program: &str, count: u64, run: impl Fn(u64) -> (Vec<u8>, Vec<u8>)) -> io::Result<usize> {
     let mut differences = 0;
     for index in 0..count {
         let (input, expected) = run(index);
         let shown = shortened(crate::readable::hex(&input).as_bytes());
-        let got = output_of(program, input)?;
-        if got != expected {
-            differences += 1;
-            if differences <= SHOWN {
-                println!("run {index}: {shown}\n  oracle\n{}\n  program\n{}", shortened(&expected), shortened(&got));
-            }
+        let (got, status) = output_of(program, input)?;
+        if got == expected && ends_well(status, &expected) {
+            continue;
+        }
+        differences += 1;
+        if differences <= SHOWN {
+            let (right, printed) = (shortened(&expected), shortened(&got));
+            println!("run {index}: {shown}\n  oracle\n{right}\n  program, which ended with {status}\n{printed}");
         }
     }
     println!("runs {count}\ndifferences {differences}");

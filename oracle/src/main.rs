@@ -108,9 +108,17 @@ fn self_check(mutate: Option<usize>) -> Outcome {
     Ok(failures.is_empty())
 }
 
+/// An argument that must be a number.
+fn number(what: &str, text: &str) -> Result<u64, Box<dyn Error>> {
+    text.parse().map_err(|_| format!("{what} must be a number from 0 to {}, not '{text}'", u64::MAX).into())
+}
+
+fn seeded(seed: &str, ops: Option<&str>) -> Result<Generator, Box<dyn Error>> {
+    Ok(Generator::new(number("SEED", seed)?, ops)?)
+}
+
 fn run(arguments: &[&str]) -> Outcome {
-    let seeded =
-        |seed: &str, ops: Option<&str>| -> Result<Generator, Box<dyn Error>> { Ok(Generator::new(seed.parse()?, ops)?) };
+    let counted = |count: &str| number("COUNT", count);
     match *arguments {
         ["answer"] => {
             answers::answer_all(io::stdin().lock(), output())?;
@@ -120,19 +128,27 @@ fn run(arguments: &[&str]) -> Outcome {
         ["encode"] => encode_all(),
         ["dirty"] => show_dirty(),
         ["list"] => list(),
-        ["generate", seed, count] => generate(&seeded(seed, None)?, count.parse()?),
-        ["generate", seed, count, ops] => generate(&seeded(seed, Some(ops))?, count.parse()?),
-        ["coverage", seed, count] => cover(&seeded(seed, None)?, count.parse()?),
+        ["generate", seed, count] => generate(&seeded(seed, None)?, counted(count)?),
+        ["generate", seed, count, ops] => generate(&seeded(seed, Some(ops))?, counted(count)?),
+        ["coverage", seed, count] => cover(&seeded(seed, None)?, counted(count)?),
+        ["-h" | "--help"] => {
+            println!("{USAGE}");
+            Ok(true)
+        }
         ["sweep-size"] => {
             println!("{}", seeded("0", None)?.sweep_size());
             Ok(true)
         }
-        ["compare", program, seed, count] => Ok(compare::compare(program, seeded(seed, None)?, count.parse()?)? == 0),
-        ["compare", program, seed, count, ops] => Ok(compare::compare(program, seeded(seed, Some(ops))?, count.parse()?)? == 0),
-        ["compare-bad", program, seed, count] => Ok(compare::compare_bad(program, seeded(seed, None)?, count.parse()?)? == 0),
-        ["compare-list", program, seed, count] => Ok(compare::compare_list(program, seeded(seed, None)?, count.parse()?)? == 0),
+        ["compare", program, seed, count] => Ok(compare::compare(program, seeded(seed, None)?, counted(count)?)? == 0),
+        ["compare", program, seed, count, ops] => {
+            Ok(compare::compare(program, seeded(seed, Some(ops))?, counted(count)?)? == 0)
+        }
+        ["compare-bad", program, seed, count] => Ok(compare::compare_bad(program, seeded(seed, None)?, counted(count)?)? == 0),
+        ["compare-list", program, seed, count] => {
+            Ok(compare::compare_list(program, seeded(seed, None)?, counted(count)?)? == 0)
+        }
         ["self-check"] => self_check(None),
-        ["self-check", "--mutate", case] => self_check(Some(case.parse()?)),
+        ["self-check", "--mutate", case] => self_check(Some(number("K", case)? as usize)),
         ["case-count"] => {
             println!("{}", cases::count());
             Ok(true)

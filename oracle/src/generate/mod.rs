@@ -31,7 +31,7 @@ impl Generator {
     pub fn new(seed: u64, ops: Option<&str>) -> Result<Generator, String> {
         let weight = |op: &str| {
             let found = WEIGHTS.iter().find(|(name, _)| *name == op);
-            found.copied().ok_or(format!("no such op: {op}"))
+            found.copied().ok_or(format!("OPS must be a list with commas of 1 to 10 and {SWEEP}; '{op}' is none of them"))
         };
         let chosen = match ops {
             None => WEIGHTS.to_vec(),
