@@ -1,25 +1,15 @@
--- For each public function, two answers that its contract allows are equal, and so is what they leave in the line. Assumes nothing.
+-- For each function that puts one line, two answers that its contract allows are equal, and so is what they leave there. How many rows go into one page is
+-- left to `put_rows`; what they say is not. Assumes nothing.
 use Prim.Native.Nat.{ℕ}
 use mathlib.Core.Path.{_≡_, sym, _∙_}
 use mathlib.Core.List.{List}
 use Rattle.text.specs.Written.{Written}
-use Rattle.cache.specs.declared.Record.{Record}
-use Rattle.cache.specs.Records.{recordAt, announced}
-use Rattle.cache.specs.Rows.{rowOf, heading, endText, brokenText}
-
-pub record-at-determined : (l : List ℕ) (at : ℕ) {r r′ : Record} → r ≡ recordAt l at → r′ ≡ recordAt l at → r ≡ r′
-record-at-determined l at p q = p ∙ sym q
-
-pub announced-by-determined : (l : List ℕ) {r r′ : ℕ} → r ≡ announced l → r′ ≡ announced l → r ≡ r′
-announced-by-determined l p q = p ∙ sym q
+use Rattle.cache.specs.Rows.{heading, endText, brokenText}
 
 written-determined : {d xs e e′ : List ℕ} {at n r r′ : ℕ} → Written d at n xs e r → Written d at n xs e′ r′ → (r ≡ r′) × (e ≡ e′)
 written-determined p q = (p .put .next ∙ sym (q .put .next), p .put .left ∙ sym (q .put .left))
 
 module _ {d e e′ : List ℕ} {r r′ : ℕ} where
-  pub put-row-determined : (k : ℕ) (s : List ℕ) → Written d 0 80 (rowOf k s) e r → Written d 0 80 (rowOf k s) e′ r′ → (r ≡ r′) × (e ≡ e′)
-  put-row-determined k s p q = written-determined p q
-
   pub put-heading-determined : Written d 0 80 heading e r → Written d 0 80 heading e′ r′ → (r ≡ r′) × (e ≡ e′)
   put-heading-determined p q = written-determined p q
 

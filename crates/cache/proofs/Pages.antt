@@ -10,11 +10,12 @@ use Rattle.octets.specs.Octets.{part, be, splice}
 use Rattle.octets.specs.Put.{Put}
 use Rattle.octets.proofs.Splice.{splice-length}
 use Rattle.text.specs.Written.{Written}
-use Rattle.cache.specs.declared.Record.the-variants.{Got}
+use Rattle.records.specs.declared.Record.the-variants.{Got}
 use Rattle.cache.specs.declared.Rows.{Rows}
-use Rattle.cache.specs.Records.{recordAt}
+use Rattle.records.specs.Records.{recordAt}
 use Rattle.cache.specs.Rows.{rowOf, lineAt, linesFrom, Rowed, Listed}
-use Rattle.cache.proofs.Recorded.{got-stands, whole-record}
+use Rattle.records.proofs.Recorded.{got-stands}
+use Rattle.records.proofs.Blocks.{part-there, got-there}
 
 abbrev pub upTo : ℕ → ℕ → ℕ → Bool → Rows
 upTo next count used full = record { next = next; seen = count; used = used; «is_full» = full }
@@ -33,39 +34,20 @@ put-behind {d} {xs} {e} {at} {r} p =
     let n : length (take at d ++ xs) ≡ r = length-append (take at d) xs ∙ ap (λ (k : ℕ). k + length xs) l ∙ sym (p .next) in
     ap (take r) (p .left ∙ sym (append-assoc (take at d) xs (drop (at + length xs) d))) ∙ take-at (take at d ++ xs) (drop (at + length xs) d) r n
 
--- a record that stands whole in a block stands in every file that has the block
+-- in a file that has the block: a record's row, and then the lines behind it
 module _ (front l behind : List ℕ) where
   abbrev file : List ℕ
   file = front ++ (l ++ behind)
 
-  part-there : (at n : ℕ) → at + n ≤ length l → part file (length front + at) n ≡ part l at n
-  part-there at n h =
-      ap (take n) (drop-append-add front (l ++ behind) at ∙ drop-append-le at l behind (omega arith)) ∙ take-append-le n (drop at l) behind (omega (arith, length-drop at l))
-
-  got-there : (at : ℕ) {a b : ℕ} → recordAt l at ≡ Got a b → recordAt file (length front + at) ≡ Got (length front + a) (length front + b)
-  got-there at {a} {b} e =
-      let s = got-stands l at e in
-      let n : ℕ = be (part l (at + 2) 2) in
-      let start : a ≡ at + 4 = s .start in
-      let stop : b ≡ a + n = s .stop in
-      let room : b ≤ length l = s .room in
-      let long : length file ≡ length front + (length l + length behind) = simp (length-append) refl in
-      let two : length front + at + 2 ≡ length front + (at + 2) = omega arith in
-      let size : be (part file (length front + at + 2) 2) ≡ n = ap (λ (i : ℕ). be (part file i 2)) two ∙ ap be (part-there (at + 2) 2 (omega arith)) in
-      let mark = ap be (part-there at 2 (omega arith)) ∙ s .marked in
-      whole-record file (length front + at) (omega arith) (omega arith) mark (omega arith)
-      ∙ ap₂ (λ (x y : ℕ). Got x y) (omega arith) (omega arith)
-
-  -- its row, and then the lines behind it
   row-first : (k at n : ℕ) {a b : ℕ} → recordAt l at ≡ Got a b
       → linesFrom (suc n) file k (length front + at) ≡ rowOf (suc k) (part l a (b - a)) ++ linesFrom n file (suc k) (length front + b)
   unfolding linesFrom
   row-first k at n {a} {b} e =
       let s = got-stands l at e in
       let size : length front + b - (length front + a) ≡ b - a = omega arith in
-      ap (λ r. lineAt r k (length front + at) (linesFrom n file) file) (got-there at e)
+      ap (λ r. lineAt r k (length front + at) (linesFrom n file) file) (got-there front l behind at e)
       ∙ ap (λ (i : ℕ). rowOf (suc k) (part file (length front + a) i) ++ linesFrom n file (suc k) (length front + b)) size
-      ∙ ap (λ (x : List ℕ). rowOf (suc k) x ++ linesFrom n file (suc k) (length front + b)) (part-there a (b - a) (omega (arith, s .room, s .stop)))
+      ∙ ap (λ (x : List ℕ). rowOf (suc k) x ++ linesFrom n file (suc k) (length front + b)) (part-there front l behind a (b - a) (omega (arith, s .room, s .stop)))
 
 module _ (l : List ℕ) (at k : ℕ) where
   pub begun : (page : List ℕ) → at ≤ length l → Rowed l at k page at k 0

@@ -7,7 +7,7 @@ use Rattle.text.specs.Text.{digitsIn, decimal, hex, hexes}
 use Rattle.reference.specs.Reader.{done, need, number, run, check, choose, ending, within, inside, many, after, component, readTap, readLocation, readBinder, readExtra, readBiop, readAddress, readName, readService, readLite, readProfile, readReference, readWhole}
 use Rattle.reference.specs.Questions.{kindNumbered, kindOf}
 use Rattle.reference.specs.Worked.{j}
-use Rattle.cache.specs.Records.{layoutRecord, recordAt}
+use Rattle.records.specs.Records.{layoutRecord, recordAt}
 use Rattle.cache.specs.Rows.{foundText, refusedText, answerText, rowOf, heading, endText, brokenText, linesFrom, listed}
 
 -- 00000003 00000000

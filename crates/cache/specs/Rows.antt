@@ -9,10 +9,10 @@ use Rattle.text.specs.Text.{decimal, hexes}
 use Rattle.reference.specs.Meaning.{Reference}
 use Rattle.reference.specs.Reader.{Answer, ok, refused, readWhole}
 use Rattle.reference.specs.Questions.{Kind, directory, file, stream, serviceGateway, streamEvent, unknown, kindOf, dir, fil, str, srg, ste}
-use Rattle.cache.specs.declared.Record.{Record}
-use Rattle.cache.specs.declared.Record.the-variants.{Got, Broken, End}
+use Rattle.records.specs.declared.Record.{Record}
+use Rattle.records.specs.declared.Record.the-variants.{Got, Broken, End}
 use Rattle.cache.specs.declared.Rows.{Rows}
-use Rattle.cache.specs.Records.{recordAt}
+use Rattle.records.specs.Records.{recordAt}
 
 -- three letters, or eight lowercase hexadecimal digits
 abbrev pub kindText : Kind → List ℕ

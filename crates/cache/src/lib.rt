@@ -1,70 +1,22 @@
-// Marked records of a cache, and the rows of its listing as octets.
+// The rows of a cache's listing as octets.
 ghost use mathlib.Core.Path.{_≡_};
 ghost use Prim.Native.Nat.{_+_, _≤_, _<_};
 ghost use lib.ListN.{length};
 ghost use Rattle.text.specs.Written.{Written};
 ghost use Rattle.reference.specs.Reader.{readWhole};
 ghost use Rattle.questions.specs.Told.{kindTold};
-ghost use Rattle.cache.specs.Records.{recordAt, announced};
 ghost use Rattle.cache.specs.Rows.{heading, rowOf, endText, brokenText, kindText, foundText, refusedText, answerText, Listed};
-use octets::be16;
 use questions::ObjectKind;
 use questions::object_kind;
 use reading::read_whole_into;
+use records::Record;
+use records::record_at;
 use reference::Answer;
 use text::put_decimal;
 use text::put_hex32;
 use text::put_octet;
 use text::put_spaced;
 use text::put_word;
-
-// The octets 4F 52 that begin a record, as a number.
-const MARK: u16 = 0x4F52;
-
-// What stands at a place of a cache: a record, whose reference begins at `start` and ends before `stop`, where the next record begins;
-// a wrong mark or a cut record; or nothing, at the end.
-pub enum Record {
-    Got { start: usize, stop: usize },
-    Broken,
-    End,
-}
-
-// The record whose mark stands at `at`.
-pub fn record_at(file: &[u8], at: usize) -> Record
-    ensures { λ r. ⌜ r ≡ recordAt (now (file .entry)) at ⌝ }
-{
-    let end = file.len();
-    if end <= at {
-        return Record::End;
-    }
-    if end - at < 4 {
-        return Record::Broken;
-    }
-    if be16(file, at) != MARK {
-        return Record::Broken;
-    }
-    let n = be16(file, at + 2) as usize;
-    if end - at - 4 < n {
-        return Record::Broken;
-    }
-    Record::Got {
-        start: at + 4,
-        stop: at + 4 + n,
-    }
-}
-
-// How many octets a record's first four announce behind them: 0 where `head` is shorter or has a wrong mark.
-pub fn announced_by(head: &[u8]) -> u16
-    ensures { λ r. ⌜ r ≡ announced (now (head .entry)) ⌝ }
-{
-    if head.len() < 4 {
-        return 0;
-    }
-    if be16(head, 0) != MARK {
-        return 0;
-    }
-    be16(head, 2)
-}
 
 fn put_kind(kind: ObjectKind, out: &mut [u8], at: usize) -> usize
     requires { ⌜ at + 8 ≤ length (now out) ⌝ }

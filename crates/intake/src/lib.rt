@@ -1,9 +1,10 @@
-// Input from a descriptor into lent slices, in blocks. A read that fails is told apart from the input's end.
+// Input from a descriptor into lent slices: parts of a known length, and the records of a cache in blocks. A read that fails is told apart from the input's end.
 ghost use mathlib.Core.Path.{_≡_};
 ghost use Prim.Native.Nat.{_+_, _-_, _≤_, _<_};
 ghost use lib.ListN.{length};
 ghost use Rattle.io.specs.Counts.{Counts};
 ghost use Rattle.octets.specs.Octets.{part, splice};
+use records::announced_by;
 
 // How many octets came. None: the input ended, or the read failed, and then errno says why.
 pub struct Came {
@@ -58,7 +59,7 @@ fn move_down(room: &mut [u8], from: usize, n: usize, to: usize)
 }
 
 // One read behind what stands in `room` from `from` to before `to`, which is moved to the front first: how many octets came behind it.
-pub fn refill(fd: i32, room: &mut [u8], from: usize, to: usize) -> Came
+fn refill(fd: i32, room: &mut [u8], from: usize, to: usize) -> Came
     requires { ⌜ (from ≤ to) × (to ≤ length (now room)) × (to - from < length (now room)) ⌝ }
     ensures { λ r. ⌜ (to - from) + r .count ≤ length (now (room .exit)) ⌝ }
     ensures { λ r. ⌜ part (now (room .exit)) 0 (to - from) ≡ part (now (room .entry)) from (to - from) ⌝ }
@@ -66,4 +67,20 @@ pub fn refill(fd: i32, room: &mut [u8], from: usize, to: usize) -> Came
     let kept = to - from;
     move_down(room, from, kept, 0);
     read_some(fd, &mut room[kept..])
+}
+
+// More octets behind those from `from` to before `to`, which are no whole record and are moved to the front: how many came. None come behind a wrong
+// mark, which no octet can mend (`broken-there`).
+pub fn fetch(fd: i32, room: &mut [u8], from: usize, to: usize) -> Came
+    requires { ⌜ (from ≤ to) × (to ≤ length (now room)) × (65539 ≤ length (now room)) ⌝ }
+    ensures { λ r. ⌜ to + r .count ≤ from + length (now (room .entry)) ⌝ }
+    ensures { λ r. ⌜ (0 < r .count → part (now (room .exit)) 0 (to - from) ≡ part (now (room .entry)) from (to - from)) ⌝ }
+{
+    if 4 + announced_by(&room[from..to]) as usize <= to - from {
+        return Came {
+            count: 0,
+            is_failure: false,
+        };
+    }
+    refill(fd, room, from, to)
 }

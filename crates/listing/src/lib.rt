@@ -1,12 +1,10 @@
 // The listing of a cache that comes from a file descriptor, to standard output, in blocks. What octets mean and what a line says is decided in
 // crate cache, how they come in crate intake.
-use cache::announced_by;
 use cache::put_broken;
 use cache::put_end;
 use cache::put_heading;
 use cache::put_rows;
-use intake::Came;
-use intake::refill;
+use intake::fetch;
 use libc::STDOUT_FILENO;
 use outcome::Outcome;
 ghost use Prim.Native.Nat.{_+_, _≤_, _<_};
@@ -68,20 +66,6 @@ fn end(is_failure: bool, left: usize, seen: u64, at: u64) -> Outcome {
         return end_whole(seen);
     }
     end_broken(at)
-}
-
-// More octets behind those from `from` to before `to`, which are no whole record: none behind a wrong mark, which no octet can mend.
-fn fetch(fd: i32, room: &mut [u8], from: usize, to: usize) -> Came
-    requires { ⌜ (from ≤ to) × (to ≤ length (now room)) × (65539 ≤ length (now room)) ⌝ }
-    ensures { λ r. ⌜ to + r .count ≤ from + length (now (room .entry)) ⌝ }
-{
-    if 4 + announced_by(&room[from..to]) as usize <= to - from {
-        return Came {
-            count: 0,
-            is_failure: false,
-        };
-    }
-    refill(fd, room, from, to)
 }
 
 // Lists what comes from `fd`, of which nothing has come yet.

@@ -3,15 +3,15 @@ use mathlib.Core.Path.{_≡_, sym, subst, _∙_}
 use mathlib.Core.List.{[], _∷_}
 use types.Run.{OneOf, miss}
 use denote.Enum.Declared.{tagOf}
-use Rattle.cache.specs.declared.Record.{Record}
-use Rattle.cache.proofs.Record.{the-type}
+use Rattle.records.specs.declared.Record.{Record}
+use Rattle.records.proofs.Record.{the-type}
 use Prim.Native.Nat.{_-_}
 use native.Mathlib.Omega.{arith}
 use borrow.Author.Needs.{needs}
 use lib.ListN.{length}
 use denote.Ref.{now}
 use Rattle.cache.specs.Rows.{Rowed}
-use Rattle.cache.proofs.Recorded.{got-stands}
+use Rattle.records.proofs.Recorded.{got-stands}
 use Rattle.cache.proofs.Pages.{begun, turn, when-full, when-none}
 use Rattle.cache.proofs.put_rows.Statement.{statement}
 use Rattle.cache.proofs.put_rows.Tie as tie

@@ -1,10 +1,10 @@
--- `cache::announced_by` meets its contract. A law for each answer. Assumes nothing.
+-- `records::announced_by` meets its contract. A law for each answer. Assumes nothing.
 use mathlib.Core.Path.{sym, _∙_}
 use native.Mathlib.Omega.{arith}
 use borrow.Author.Needs.{needs}
-use Rattle.cache.proofs.Recorded.{none-short, none-wrong, announces}
-use Rattle.cache.proofs.announced_by.Statement.{statement}
-use Rattle.cache.proofs.announced_by.Tie as tie
+use Rattle.records.proofs.Recorded.{none-short, none-wrong, announces}
+use Rattle.records.proofs.announced_by.Statement.{statement}
+use Rattle.records.proofs.announced_by.Tie as tie
 
 returns : tie.Need-returns
 returns c = sym (none-short _ (omega arith))

@@ -1,13 +1,13 @@
--- `cache::record_at` meets its contract. A law for each answer. Assumes nothing.
+-- `records::record_at` meets its contract. A law for each answer. Assumes nothing.
 use Prim.Native.Nat.{ℕ, _+_}
 use mathlib.Core.Path.{sym, ap, _∙_}
 use native.Mathlib.Omega.{arith}
 use borrow.Author.Needs.{needs}
 use denote.Ref.{now}
-use Rattle.cache.specs.declared.Record.the-variants.{Got}
-use Rattle.cache.proofs.Recorded.{at-end, cut-head, wrong-mark, cut-record, whole-record}
-use Rattle.cache.proofs.record_at.Statement.{statement}
-use Rattle.cache.proofs.record_at.Tie as tie
+use Rattle.records.specs.declared.Record.the-variants.{Got}
+use Rattle.records.proofs.Recorded.{at-end, cut-head, wrong-mark, cut-record, whole-record}
+use Rattle.records.proofs.record_at.Statement.{statement}
+use Rattle.records.proofs.record_at.Tie as tie
 
 returns : tie.Need-returns
 returns c = sym (at-end _ _ (omega arith))

@@ -10,9 +10,9 @@ use lib.Dec.{leb, ltb, eqb}
 use lib.ListN.{length}
 use Rattle.octets.specs.Octets.{part, be}
 use Rattle.reference.specs.Reader.{pick}
-use Rattle.cache.specs.declared.Record.{Record}
-use Rattle.cache.specs.declared.Record.the-variants.{Got, Broken, End}
-use Rattle.cache.specs.Records.{mark, recordAt, announced}
+use Rattle.records.specs.declared.Record.{Record}
+use Rattle.records.specs.declared.Record.the-variants.{Got, Broken, End}
+use Rattle.records.specs.Records.{mark, recordAt, announced}
 
 module _ (l : List ℕ) (at : ℕ) where
   pub at-end : length l ≤ at → recordAt l at ≡ End

@@ -6,8 +6,8 @@ use lib.Dec.{ltb, leb, eqb}
 use lib.ListN.{length}
 use Rattle.octets.specs.Octets.{part, be, octets}
 use Rattle.reference.specs.Reader.{pick}
-use Rattle.cache.specs.declared.Record.{Record}
-use Rattle.cache.specs.declared.Record.the-variants.{Got, Broken, End}
+use Rattle.records.specs.declared.Record.{Record}
+use Rattle.records.specs.declared.Record.the-variants.{Got, Broken, End}
 
 -- the mark's two octets as a number
 abbrev pub mark : ℕ
