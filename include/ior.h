@@ -168,6 +168,36 @@ static inline const uint32_t *ior_tap_at(const struct ior_table *t, size_t i) { 
 static inline const uint32_t *ior_name_at(const struct ior_table *t, size_t i) { return t->number + IOR_NAME_START + IOR_NAME_WIDTH * i; }
 static inline const uint32_t *ior_extra_at(const struct ior_table *t, size_t i) { return t->number + IOR_EXTRA_START + IOR_EXTRA_WIDTH * i; }
 
+/* The same, to change them. */
+static inline uint32_t *ior_edit_profile(struct ior_table *t, size_t i) { return t->number + IOR_PROFILE_START + IOR_PROFILE_WIDTH * i; }
+static inline uint32_t *ior_edit_tap(struct ior_table *t, size_t i) { return t->number + IOR_TAP_START + IOR_TAP_WIDTH * i; }
+static inline uint32_t *ior_edit_name(struct ior_table *t, size_t i) { return t->number + IOR_NAME_START + IOR_NAME_WIDTH * i; }
+static inline uint32_t *ior_edit_extra(struct ior_table *t, size_t i) { return t->number + IOR_EXTRA_START + IOR_EXTRA_WIDTH * i; }
+
+/* How many taps, names and extras a profile has. */
+static inline size_t ior_taps_of(const uint32_t *profile) { return profile[0] == IOR_BIOP ? profile[IOR_BIOP_TAPS] : 0; }
+static inline size_t ior_names_of(const uint32_t *profile) { return profile[0] == IOR_LITE_OPTIONS ? profile[IOR_LITE_NAMES] : 0; }
+static inline size_t ior_extras_of(const uint32_t *profile) {
+    return profile[0] == IOR_BIOP ? profile[IOR_BIOP_EXTRAS] : profile[0] == IOR_LITE_OPTIONS ? profile[IOR_LITE_EXTRAS] : 0;
+}
+
+/* The index of the first tap, name and extra of profile i: so many have the profiles before it. */
+static inline size_t ior_first_tap(const struct ior_table *t, size_t i) {
+    size_t sum = 0;
+    while (i > 0) sum += ior_taps_of(ior_profile_at(t, --i));
+    return sum;
+}
+static inline size_t ior_first_name(const struct ior_table *t, size_t i) {
+    size_t sum = 0;
+    while (i > 0) sum += ior_names_of(ior_profile_at(t, --i));
+    return sum;
+}
+static inline size_t ior_first_extra(const struct ior_table *t, size_t i) {
+    size_t sum = 0;
+    while (i > 0) sum += ior_extras_of(ior_profile_at(t, --i));
+    return sum;
+}
+
 /* A view: offset and length stand one after the other. */
 static inline struct ior_view ior_view_of(const uint32_t *numbers, size_t at) {
     struct ior_view v;

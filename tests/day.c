@@ -46,24 +46,24 @@ static void view(uint32_t *numbers, uint32_t most) {
 }
 
 static void tap(struct ior_table *t) {
-    uint32_t *n = t->number + IOR_TAP_START + IOR_TAP_WIDTH * t->number[IOR_TAPS_USED]++;
+    uint32_t *n = ior_edit_tap(t, t->number[IOR_TAPS_USED]++);
     n[IOR_TAP_ID] = any(65536), n[IOR_TAP_USE] = any(65536), n[IOR_TAP_ASSOCIATION] = any(65536);
     view(n + IOR_TAP_SELECTOR_AT, 20);
 }
 
 static void name(struct ior_table *t) {
-    uint32_t *n = t->number + IOR_NAME_START + IOR_NAME_WIDTH * t->number[IOR_NAMES_USED]++;
+    uint32_t *n = ior_edit_name(t, t->number[IOR_NAMES_USED]++);
     view(n + IOR_NAME_ID_AT, 30), view(n + IOR_NAME_KIND_AT, 8);
 }
 
 static void extra(struct ior_table *t) {
-    uint32_t *n = t->number + IOR_EXTRA_START + IOR_EXTRA_WIDTH * t->number[IOR_EXTRAS_USED]++;
+    uint32_t *n = ior_edit_extra(t, t->number[IOR_EXTRAS_USED]++);
     n[IOR_EXTRA_TAG] = any(0xFFFFFFFF);
     view(n + IOR_EXTRA_AT, 255);
 }
 
 static void profile(struct ior_table *t) {
-    uint32_t *n = t->number + IOR_PROFILE_START + IOR_PROFILE_WIDTH * t->number[IOR_PROFILES_USED]++, entries = any(5), extras = any(5);
+    uint32_t *n = ior_edit_profile(t, t->number[IOR_PROFILES_USED]++), entries = any(5), extras = any(5);
     memset(n, 0, IOR_PROFILE_WIDTH * sizeof *n);
     n[0] = any(3), n[1] = any(0xFFFFFFFF);
     if (n[0] == IOR_OPAQUE) {
@@ -124,6 +124,13 @@ static int kept(const struct ior_table *was, const struct ior_table *t) {
     return 1;
 }
 
+/* The entries of all profiles before the one behind the last are all that are used. */
+static int sums(const struct ior_table *t) {
+    size_t end = t->number[IOR_PROFILES_USED];
+    return ior_first_tap(t, end) == t->number[IOR_TAPS_USED] && ior_first_name(t, end) == t->number[IOR_NAMES_USED]
+           && ior_first_extra(t, end) == t->number[IOR_EXTRAS_USED];
+}
+
 static void day(void) {
     struct ior_table arrived = dirty(), again = dirty(), was = again, after = dirty(), refused = dirty();
     struct ior_answer a, b;
@@ -131,6 +138,7 @@ static void day(void) {
     expect(ior_read_whole_into(stored, n, &arrived, &a) == IOR_ACCEPTED && a.number[IOR_ANSWER_COUNT] == n, "the octets were not accepted");
     expect(ior_read_whole_into(stored, n, &again, &b) == IOR_ACCEPTED && same(&a, &b), "the stored octets were not accepted again");
     expect(equal(&arrived, &again), "used entries differ when read again");
+    expect(sums(&again), "a first entry is not where the earlier ones end");
     expect(kept(&was, &again), "an unused entry was changed");
     fill(output, sizeof output), memcpy(before, output, sizeof output);
     expect(ior_write_from(&again, stored, n, output, room, &b) == IOR_ACCEPTED && same(&a, &b), "the table was not written");

@@ -10,9 +10,6 @@ static uint8_t source[ROOM];
 static struct ior_table table;
 static struct ior_answer answer;
 
-/* Entries of each table that earlier profiles own. */
-static size_t taps, names, extras;
-
 static void octets(const char *label, struct ior_view v) {
     printf("%s ", label);
     if (v.len == 0) printf("-");
@@ -37,42 +34,44 @@ static void tap(const uint32_t *t) {
         printf("    transaction %08x timeout %u\n", (unsigned)pair[0], (unsigned)pair[1]);
 }
 
-static void extra(uint32_t count) {
-    for (; count > 0; count--, extras++) {
-        const uint32_t *e = ior_extra_at(&table, extras);
-        printf("  extra tag %08x\n", (unsigned)e[IOR_EXTRA_TAG]);
-        octets("    data", ior_view_of(e, IOR_EXTRA_AT));
-    }
+static void extra(const uint32_t *e) {
+    printf("  extra tag %08x\n", (unsigned)e[IOR_EXTRA_TAG]);
+    octets("    data", ior_view_of(e, IOR_EXTRA_AT));
 }
 
-static void biop(const uint32_t *p) {
+static void biop(const uint32_t *p, size_t first) {
     printf("BIOP carousel %u module %u version %u.%u\n", (unsigned)p[IOR_BIOP_CAROUSEL], (unsigned)p[IOR_BIOP_MODULE],
            (unsigned)p[IOR_BIOP_MAJOR], (unsigned)p[IOR_BIOP_MINOR]);
     octets("  key", ior_view_of(p, IOR_BIOP_KEY_AT));
-    for (uint32_t i = 0; i < p[IOR_BIOP_TAPS]; i++) tap(ior_tap_at(&table, taps++));
-    extra(p[IOR_BIOP_EXTRAS]);
+    for (size_t i = 0; i < ior_taps_of(p); i++) tap(ior_tap_at(&table, first + i));
 }
 
-static void lite_options(const uint32_t *p) {
+static void lite_options(const uint32_t *p, size_t first) {
     printf("LiteOptions carousel %u specifier %06x transport stream %u network %u service %u\n", (unsigned)p[IOR_LITE_CAROUSEL],
            (unsigned)p[IOR_LITE_SPECIFIER], (unsigned)p[IOR_LITE_TRANSPORT_STREAM], (unsigned)p[IOR_LITE_NETWORK], (unsigned)p[IOR_LITE_SERVICE]);
-    for (uint32_t i = 0; i < p[IOR_LITE_NAMES]; i++, names++) {
-        octets("  name id", ior_view_of(ior_name_at(&table, names), IOR_NAME_ID_AT));
-        octets("  name kind", ior_view_of(ior_name_at(&table, names), IOR_NAME_KIND_AT));
+    for (size_t i = 0; i < ior_names_of(p); i++) {
+        octets("  name id", ior_view_of(ior_name_at(&table, first + i), IOR_NAME_ID_AT));
+        octets("  name kind", ior_view_of(ior_name_at(&table, first + i), IOR_NAME_KIND_AT));
     }
     octets("  context", ior_view_of(p, IOR_LITE_CONTEXT_AT));
-    extra(p[IOR_LITE_EXTRAS]);
 }
 
-static void profile(const uint32_t *p) {
+static void opaque(const uint32_t *p) {
+    printf("opaque tag %08x\n", (unsigned)p[IOR_OPAQUE_TAG]);
+    octets("  data", ior_view_of(p, IOR_OPAQUE_AT));
+}
+
+static void profile(size_t i) {
+    const uint32_t *p = ior_profile_at(&table, i);
+    size_t first = ior_first_extra(&table, i);
     if (p[0] == IOR_BIOP) {
-        biop(p);
+        biop(p, ior_first_tap(&table, i));
     } else if (p[0] == IOR_LITE_OPTIONS) {
-        lite_options(p);
+        lite_options(p, ior_first_name(&table, i));
     } else {
-        printf("opaque tag %08x\n", (unsigned)p[IOR_OPAQUE_TAG]);
-        octets("  data", ior_view_of(p, IOR_OPAQUE_AT));
+        opaque(p);
     }
+    for (size_t k = 0; k < ior_extras_of(p); k++) extra(ior_extra_at(&table, first + k));
 }
 
 int main(int argc, char **argv) {
@@ -92,6 +91,6 @@ int main(int argc, char **argv) {
     if (result != IOR_ACCEPTED) return report(argv[1], result, &answer);
     printf("octets %llu of %ld\n", (unsigned long long)answer.number[IOR_ANSWER_COUNT], n);
     kind();
-    for (uint32_t i = 0; i < table.number[IOR_PROFILES_USED]; i++) profile(ior_profile_at(&table, i));
+    for (size_t i = 0; i < table.number[IOR_PROFILES_USED]; i++) profile(i);
     return printed();
 }
