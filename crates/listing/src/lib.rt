@@ -11,7 +11,7 @@ ghost use Prim.Native.Nat.{_+_, _≤_, _<_};
 ghost use lib.ListN.{length};
 ghost use mathlib.Core.Path.{_≡_};
 
-// Octets of input held at once: four records at their longest and some.
+// Octets of input held at once; a record has at most 65,539.
 const ROOM: usize = 262144;
 
 // Octets of text held at once.
