@@ -66,30 +66,38 @@ fn list() -> io::Result<()> {
     out.flush()
 }
 
-fn seconds(command: &[String], file: &str, out: Stdio) -> f64 {
-    let cache = File::open(file).expect("the cache can be read");
-    let start = Instant::now();
-    let status = Command::new(&command[0]).args(&command[1..]).stdin(cache).stdout(out).status();
-    let time = start.elapsed().as_secs_f64();
-    assert!(status.is_ok_and(|s| s.success()), "{command:?} fails");
-    time
+fn on(file: &str, words: &[String]) -> Command {
+    let mut command = Command::new(&words[0]);
+    command.args(&words[1..]).stdin(File::open(file).expect("the cache can be read"));
+    command
 }
 
-fn printed(command: &[String], file: &str) -> Vec<u8> {
-    let cache = File::open(file).expect("the cache can be read");
-    Command::new(&command[0]).args(&command[1..]).stdin(cache).output().expect("it can be run").stdout
+fn printed(file: &str, words: &[String]) -> Vec<u8> {
+    on(file, words).output().expect("it can be run").stdout
+}
+
+fn seconds(file: &str, words: &[String]) -> f64 {
+    let start = Instant::now();
+    let status = on(file, words).stdout(Stdio::null()).status();
+    assert!(status.is_ok_and(|s| s.success()), "{words:?} fails");
+    start.elapsed().as_secs_f64()
 }
 
 fn race(file: &str, ours: &[String]) {
     let own = std::env::current_exe().expect("a program has a path").display().to_string();
     let theirs = [own, "list".into()];
-    assert!(printed(ours, file) == printed(&theirs, file), "the listings differ");
+    assert!(printed(file, ours) == printed(file, &theirs), "the listings differ");
     let (mut a, mut b) = (f64::MAX, f64::MAX);
     for _ in 0..ROUNDS {
-        a = a.min(seconds(ours, file, Stdio::null()));
-        b = b.min(seconds(&theirs, file, Stdio::null()));
+        a = a.min(seconds(file, ours));
+        b = b.min(seconds(file, &theirs));
     }
-    println!("listing of 800,000 records, 65 MB: ours {:.0} ms, a plain Rust listing {:.0} ms, ratio {:.2}", a * 1e3, b * 1e3, a / b);
+    println!(
+        "listing of 800,000 records, 65 MB: ours {:.0} ms, a plain Rust listing {:.0} ms, ratio {:.2}",
+        a * 1e3,
+        b * 1e3,
+        a / b
+    );
 }
 
 fn main() {
