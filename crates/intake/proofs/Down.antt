@@ -4,7 +4,7 @@ use mathlib.Core.List.{List, _++_, append-assoc}
 use Prim.Native.Nat.{ℕ, _+_, _-_, _<_, _≤_}
 use native.Mathlib.Numerals.{add-one}
 use native.Mathlib.Omega.{arith}
-use lib.ListN.{length, take, drop, getD, set, length-drop}
+use lib.ListN.{length, take, drop, getD, set, length-drop, take-append-drop}
 use lib.Seq.{paste, paste-zero, paste-suc, length-paste, drop-paste, getD-drop, length-take-le, take-at}
 use borrow.Rule.Slice.PartMut.{putMid, take-put}
 use Rattle.octets.specs.Octets.{part, splice}
@@ -45,6 +45,13 @@ module _ (d : List ℕ) (from to : ℕ) (down : to ≤ from) where
       rw add-one
       (ap (λ (v : ℕ). set (moved i) (to + i) v) (unread i (omega arith) (from + i) (omega arith) ∙ sym (getD-drop from d i 0))
       ∙ paste-suc d to (drop from d) i 0 (omega arith) (simp length-drop (omega arith)))
+
+-- what stands at the front is there already
+pub stays : (d : List ℕ) (n : ℕ) → n ≤ length d → d ≡ splice d 0 (part d 0 n)
+unfolding splice
+stays d n h =
+    let e : n ≡ 0 + length (take n d) = omega (arith, length-take-le n d h) in
+    sym (take-append-drop n d) ∙ ap (λ (k : ℕ). take n d ++ drop k d) e
 
 -- what was moved to the front stands there still, once octets came behind it
 pub kept : (d : List ℕ) (from n : ℕ) → from + n ≤ length d → (e : List ℕ) → e ≡ splice d 0 (part d from n) → (k : ℕ) (x : List ℕ) → part (putMid n k e x) 0 n ≡ part d from n

@@ -58,6 +58,18 @@ fn move_down(room: &mut [u8], from: usize, n: usize, to: usize)
     }
 }
 
+// The n octets from `from` on, moved to the front. Where they stand there already nothing is moved, so that a pipe that brings an octet at a time costs no
+// more than its octets.
+fn to_front(room: &mut [u8], from: usize, n: usize)
+    requires { ⌜ from + n ≤ length (now room) ⌝ }
+    ensures { λ _. ⌜ now (room .exit) ≡ splice (now (room .entry)) 0 (part (now (room .entry)) from n) ⌝ }
+{
+    if from == 0 {
+        return;
+    }
+    move_down(room, from, n, 0);
+}
+
 // One read behind what stands in `room` from `from` to before `to`, which is moved to the front first: how many octets came behind it.
 fn refill(fd: i32, room: &mut [u8], from: usize, to: usize) -> Came
     requires { ⌜ (from ≤ to) × (to ≤ length (now room)) × (to - from < length (now room)) ⌝ }
@@ -65,7 +77,7 @@ fn refill(fd: i32, room: &mut [u8], from: usize, to: usize) -> Came
     ensures { λ r. ⌜ part (now (room .exit)) 0 (to - from) ≡ part (now (room .entry)) from (to - from) ⌝ }
 {
     let kept = to - from;
-    move_down(room, from, kept, 0);
+    to_front(room, from, kept);
     read_some(fd, &mut room[kept..])
 }
 

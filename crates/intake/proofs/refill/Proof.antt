@@ -11,8 +11,8 @@ use Rattle.intake.proofs.refill.Tie as tie
 sub-kept : tie.Need-sub-kept
 sub-kept c = search needs
 
-move-down-requires : tie.Need-move-down-requires
-move-down-requires c κs = search needs
+to-front-requires : tie.Need-to-front-requires
+to-front-requires c κs = search needs
 
 sub-read-some : tie.Need-sub-read-some
 sub-read-some c = search needs
@@ -34,14 +34,14 @@ returns c =
     let r = c .before .before in
     let m = r .before .before .before .before in
     let a = m .before .before .before .args in
-    (search needs, kept (now (a .room)) (a .from) (a .to - a .from) (omega arith) (m .move-down .last .0) (m .move-down .ensures) (length (m .move-down .last .0) - (a .to - a .from)) (r .read-some .last .1 .0))
+    (search needs, kept (now (a .room)) (a .from) (a .to - a .from) (omega arith) (m .to-front .last .0) (m .to-front .ensures) (length (m .to-front .last .0) - (a .to - a .from)) (r .read-some .last .1 .0))
 
 pub refill-spec : {M : Type 1} → statement M
 refill-spec =
     tie.close
     (tie.spec
     sub-kept
-    move-down-requires
+    to-front-requires
     sub-read-some
     part-read-some-start
     part-read-some-end
