@@ -1,7 +1,7 @@
-# kit.sh: what the commands of bin/ share. It is read by them, not run; a command has set `self` to its own path.
+# kit.sh: what the commands of this repository share. It is read by them, not run; a command has set `self` to its own path.
 # It gives `root`, the repository; find_kit gives `kit`, `machine` and `tools`, the Rattle kit and what it has for this machine.
 # shellcheck shell=sh disable=SC2034,SC2154
-root=${self%/bin/*}
+root=${self%/*/*}
 command=${self##*/}
 
 # A closed standard error would otherwise become the number of the next file that is opened.

@@ -16,10 +16,10 @@ fn tell_status(digit: u8) {
     }
 }
 
-// Says why the last call failed.
-fn say_why(name: &[u8], other: &[u8]) {
+// Says why the last read failed. An input without a name is standard input.
+fn say_not_read(name: &[u8]) {
     if name.len() == 0 {
-        os::fail(other);
+        os::fail(b"standard input");
         return;
     }
     os::fail(name);
@@ -31,7 +31,7 @@ pub fn tell(outcome: Outcome, name: &[u8]) {
         Outcome::Done => tell_status(b'0'),
         Outcome::Broken => tell_status(b'1'),
         Outcome::NotRead => {
-            say_why(name, b"standard input");
+            say_not_read(name);
             tell_status(b'2');
         }
         Outcome::NotWritten => {
