@@ -4,16 +4,19 @@ use mathlib.Core.Path.{_≡_, _∙_}
 use mathlib.Core.List.{List}
 use native.Mathlib.Nat.{add-assoc}
 use Rattle.octets.specs.Octets.{be, part}
-use Rattle.reference.specs.Reader.{ok, refused, refusal, number, done, readLocation}
+use Rattle.reference.specs.Steps.{ok, refused, number, done}
+use Rattle.reference.specs.Refusals.{cutAt, longAt}
+use Rattle.reference.specs.Reader.{readLocation}
 use Rattle.reference.proofs.Steps.{need-cut, need-pass, run-cut, run-pass}
+use Rattle.reference.specs.Places.{place-location-fixed}
 
 module _ (d : List ℕ) (pos end : ℕ) where
-  pub location-cut : end < pos + 9 → readLocation d pos end ≡ refused (refusal 1 7 (pos + 9) end)
+  pub location-cut : end < pos + 9 → readLocation d pos end ≡ refused (cutAt place-location-fixed pos 9 end)
   unfolding readLocation
-  location-cut h = need-cut d pos end 9 7 _ h
+  location-cut h = need-cut d pos end 9 place-location-fixed _ h
 
   pub location-over : pos + 9 ≤ end → end - (pos + 9) < be (part d (pos + 8) 1)
-      → readLocation d pos end ≡ refused (refusal 2 0 (be (part d (pos + 8) 1)) (end - (pos + 9)))
+      → readLocation d pos end ≡ refused (longAt (pos + 9) (be (part d (pos + 8) 1)) end)
   unfolding readLocation number
   location-over h o = rw need-pass (simp add-assoc (run-cut d (pos + 9) end (be (part d (pos + 8) 1)) _ o))
 

@@ -4,15 +4,18 @@ use mathlib.Core.Path.{_≡_, _∙_}
 use mathlib.Core.List.{List}
 use native.Mathlib.Nat.{add-assoc}
 use Rattle.octets.specs.Octets.{be, part}
-use Rattle.reference.specs.Reader.{ok, refused, refusal, number, done, readTap}
+use Rattle.reference.specs.Steps.{ok, refused, number, done}
+use Rattle.reference.specs.Refusals.{cutAt, longAt}
+use Rattle.reference.specs.Reader.{readTap}
 use Rattle.reference.proofs.Steps.{need-cut, need-pass, run-cut, run-pass}
+use Rattle.reference.specs.Places.{place-tap-fixed}
 
 module _ (d : List ℕ) (pos end : ℕ) where
-  pub tap-cut : end < pos + 7 → readTap d pos end ≡ refused (refusal 1 11 (pos + 7) end)
+  pub tap-cut : end < pos + 7 → readTap d pos end ≡ refused (cutAt place-tap-fixed pos 7 end)
   unfolding readTap
-  tap-cut h = need-cut d pos end 7 11 _ h
+  tap-cut h = need-cut d pos end 7 place-tap-fixed _ h
 
-  pub tap-over : pos + 7 ≤ end → end - (pos + 7) < be (part d (pos + 6) 1) → readTap d pos end ≡ refused (refusal 2 0 (be (part d (pos + 6) 1)) (end - (pos + 7)))
+  pub tap-over : pos + 7 ≤ end → end - (pos + 7) < be (part d (pos + 6) 1) → readTap d pos end ≡ refused (longAt (pos + 7) (be (part d (pos + 6) 1)) end)
   unfolding readTap number
   tap-over h o = rw need-pass (simp add-assoc (run-cut d (pos + 7) end (be (part d (pos + 6) 1)) _ o))
 

@@ -6,10 +6,12 @@ ghost use Prim.Native.Nat.{_+_, _≤_};
 ghost use lib.ListN.{length};
 ghost use Rattle.reference.specs.Meaning.{biop};
 ghost use Rattle.reference.specs.Layout.{tag-location};
-ghost use Rattle.reference.specs.Reader.{readTap, readLocation, readBiop, component, many, ending, seen};
-ghost use Rattle.reference.specs.Tables.{tapAt};
+ghost use Rattle.reference.specs.Reader.{readTap, readTaps, readLocation, readBiop, readObjectLocation};
+ghost use Rattle.reference.specs.Heads.{readPart, readBinderHead, readBiopHead};
+ghost use Rattle.reference.specs.Steps.{seen};
+ghost use Rattle.reference.specs.Placed.{tapAt, locationAt};
 ghost use Rattle.components.specs.Told.{StoresTaps, StoresBody, bodyTold};
-ghost use Rattle.biop.specs.Told.{tapTold, partTold, readPart, locationTold, locationAt, headTold, headAt, readBinderHead, readBiopHead, biopRest};
+ghost use Rattle.biop.specs.Told.{tapTold, partTold, locationTold, headTold, headAt, biopRest};
 use components::BodyRead;
 use components::Ended;
 use components::FixedRead;
@@ -19,6 +21,20 @@ use octets::be16;
 use octets::be32;
 use octets::octet;
 use reference::ObjectLocation;
+use reference::PLACE_BINDER_HEADER;
+use reference::PLACE_BINDER_LEFTOVER;
+use reference::PLACE_BINDER_TAG;
+use reference::PLACE_BIOP_COMPONENTS;
+use reference::PLACE_BIOP_EXTRA;
+use reference::PLACE_BIOP_FIXED;
+use reference::PLACE_BIOP_LEFTOVER;
+use reference::PLACE_BIOP_ORDER;
+use reference::PLACE_LOCATION_FIXED;
+use reference::PLACE_LOCATION_HEADER;
+use reference::PLACE_LOCATION_LEFTOVER;
+use reference::PLACE_LOCATION_TAG;
+use reference::PLACE_TAP_COUNT;
+use reference::PLACE_TAP_FIXED;
 use reference::PROFILES;
 use reference::Refusal;
 use reference::TAG_CONN_BINDER;
@@ -76,13 +92,13 @@ fn read_tap(d: &[u8], base: usize, pos: usize, end: usize) -> TapRead
     let data = pos + 7;
     if end < data {
         return TapRead::Not {
-            why: cut(11, data, end),
+            why: cut(PLACE_TAP_FIXED, pos, 7, end),
         };
     }
     let len = octet(d, pos + 6) as usize;
     if end - data < len {
         return TapRead::Not {
-            why: too_long(len, end - data),
+            why: too_long(data, len, end),
         };
     }
     let tap = Tap {
@@ -108,7 +124,7 @@ fn read_taps(
     first: usize,
 ) -> Ended
     requires { ⌜ (pos ≤ end) × (end ≤ length (now d)) × (base + length (now d) ≤ 65535) × (first + n ≤ 0x200000000) × (length (now table) ≡ 490) ⌝ }
-    ensures { λ r. ⌜ StoresTaps (base + pos) (now (table .entry)) first (ending 12 (many n readTap) (now (d .entry)) pos end) (now (table .exit)) r ⌝ }
+    ensures { λ r. ⌜ StoresTaps (base + pos) (now (table .entry)) first (readTaps n (now (d .entry)) pos end) (now (table .exit)) r ⌝ }
 {
     let mut cur = pos;
     let mut i: usize = 0;
@@ -128,7 +144,7 @@ fn read_taps(
         i += 1;
     }
     if cur != end {
-        return Ended::Not(left_over(12, end - cur));
+        return Ended::Not(left_over(PLACE_BINDER_LEFTOVER, cur, end));
     }
     Ended::At(cur)
 }
@@ -136,13 +152,13 @@ fn read_taps(
 // The header of a component that must bear the tag; the places of a cut header and of a wrong tag.
 fn read_component(d: &[u8], pos: usize, tag: u32, header: u8, spot: u8) -> PartRead
     requires { ⌜ pos ≤ length (now d) ⌝ }
-    ensures { λ r. ⌜ partTold r ≡ readPart tag header spot (now (d .entry)) pos (length (now (d .entry))) ⌝ }
+    ensures { λ r. ⌜ partTold r ≡ readPart 1 tag header spot (now (d .entry)) pos (length (now (d .entry))) ⌝ }
 {
     let end = d.len();
     let data = pos + 5;
     if end < data {
         return PartRead::Not {
-            why: cut(header, data, end),
+            why: cut(header, pos, 5, end),
         };
     }
     let found = be32(d, pos);
@@ -154,7 +170,7 @@ fn read_component(d: &[u8], pos: usize, tag: u32, header: u8, spot: u8) -> PartR
     let len = octet(d, pos + 4) as usize;
     if end - data < len {
         return PartRead::Not {
-            why: too_long(len, end - data),
+            why: too_long(data, len, end),
         };
     }
     PartRead::Got {
@@ -171,13 +187,13 @@ fn read_location(d: &[u8], base: usize, pos: usize, end: usize) -> LocationRead
     let data = pos + 9;
     if end < data {
         return LocationRead::Not {
-            why: cut(7, data, end),
+            why: cut(PLACE_LOCATION_FIXED, pos, 9, end),
         };
     }
     let len = octet(d, pos + 8) as usize;
     if end - data < len {
         return LocationRead::Not {
-            why: too_long(len, end - data),
+            why: too_long(data, len, end),
         };
     }
     let location = ObjectLocation {
@@ -196,16 +212,22 @@ fn read_location(d: &[u8], base: usize, pos: usize, end: usize) -> LocationRead
 // The ObjectLocation component, behind the two octets that begin the data.
 fn read_object_location(d: &[u8], base: usize) -> LocationRead
     requires { ⌜ (2 ≤ length (now d)) × (base + length (now d) ≤ 65535) ⌝ }
-    ensures { λ r. ⌜ locationTold r ≡ seen (locationAt (base + 7)) (component 1 tag-location 6 29 8 readLocation (now (d .entry)) 2 (length (now (d .entry)))) ⌝ }
+    ensures { λ r. ⌜ locationTold r ≡ seen (locationAt (base + 7)) (readObjectLocation (now (d .entry)) 2 (length (now (d .entry)))) ⌝ }
 {
-    match read_component(d, 2, TAG_OBJECT_LOCATION, 6, 29) {
+    match read_component(
+        d,
+        2,
+        TAG_OBJECT_LOCATION,
+        PLACE_LOCATION_HEADER,
+        PLACE_LOCATION_TAG,
+    ) {
         PartRead::Not { why } => LocationRead::Not { why },
         PartRead::Got { data, stop } => match read_location(d, base, data, stop) {
             LocationRead::Not { why } => LocationRead::Not { why },
             LocationRead::Got { location, next } => {
                 if next != stop {
                     return LocationRead::Not {
-                        why: left_over(8, stop - next),
+                        why: left_over(PLACE_LOCATION_LEFTOVER, next, stop),
                     };
                 }
                 LocationRead::Got { location, next }
@@ -217,15 +239,21 @@ fn read_object_location(d: &[u8], base: usize) -> LocationRead
 // A ConnBinder up to its first tap.
 fn read_binder_head(d: &[u8], pos: usize, location: ObjectLocation, extras: usize) -> HeadRead
     requires { ⌜ pos ≤ length (now d) ⌝ }
-    ensures { λ r. ⌜ headTold r ≡ readBinderHead (λ n stop. record { location = location; taps = n; extras = extras; stop = stop }) (now (d .entry)) pos (length (now (d .entry))) ⌝ }
+    ensures { λ r. ⌜ headTold r ≡ seen (λ b. record { location = location; taps = b .head; extras = extras; stop = b .stop }) (readBinderHead (now (d .entry)) pos (length (now (d .entry)))) ⌝ }
 {
-    match read_component(d, pos, TAG_CONN_BINDER, 9, 30) {
+    match read_component(
+        d,
+        pos,
+        TAG_CONN_BINDER,
+        PLACE_BINDER_HEADER,
+        PLACE_BINDER_TAG,
+    ) {
         PartRead::Not { why } => HeadRead::Not { why },
         PartRead::Got { data, stop } => {
             let next = data + 1;
             if stop < next {
                 return HeadRead::Not {
-                    why: cut(10, next, stop),
+                    why: cut(PLACE_TAP_COUNT, data, 1, stop),
                 };
             }
             let head = Head {
@@ -244,7 +272,13 @@ fn read_biop_head(d: &[u8], base: usize) -> HeadRead
     requires { ⌜ base + length (now d) ≤ 65535 ⌝ }
     ensures { λ r. ⌜ headTold r ≡ seen (headAt base) (readBiopHead (now (d .entry)) 0 (length (now (d .entry)))) ⌝ }
 {
-    match read_fixed(d, 2, 5, 28, 34) {
+    match read_fixed(
+        d,
+        2,
+        PLACE_BIOP_FIXED,
+        PLACE_BIOP_ORDER,
+        PLACE_BIOP_COMPONENTS,
+    ) {
         FixedRead::Not { why } => HeadRead::Not { why },
         FixedRead::Got { count } => match read_object_location(d, base) {
             LocationRead::Not { why } => HeadRead::Not { why },
@@ -276,7 +310,16 @@ fn read_biop_rest(
     let first_extra = used.extras;
     match read_taps(d, base, next, stop, taps, table, first_tap) {
         Ended::Not(why) => BodyRead::Not { why },
-        Ended::At(after) => match read_extras(d, base, after, extras, 13, 14, table, first_extra) {
+        Ended::At(after) => match read_extras(
+            d,
+            base,
+            after,
+            extras,
+            PLACE_BIOP_EXTRA,
+            PLACE_BIOP_LEFTOVER,
+            table,
+            first_extra,
+        ) {
             Ended::Not(why) => BodyRead::Not { why },
             Ended::At(last) => {
                 if i < PROFILES {

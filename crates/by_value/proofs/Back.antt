@@ -12,7 +12,8 @@ use Rattle.reference.specs.declared.Profile.{Profile}
 use Rattle.reference.specs.declared.TaggedProfile.{TaggedProfile}
 use Rattle.reference.specs.declared.TaggedProfile.the-variants as Sort
 use Rattle.reference.specs.declared.Tables.{Tables}
-use Rattle.reference.specs.Tables.{TapFits, BodyFits, EntryFits, Typed, filled, noTables}
+use Rattle.reference.specs.Typed.{TapFits, BodyFits, EntryFits, Typed}
+use Rattle.reference.specs.Tabled.{filled, noTables}
 use Rattle.table.specs.Region.{chunks}
 use Rattle.table.specs.Flat.{bodyNumbers, tapNumbers, nameNumbers, extraNumbers, bodyWide, profileFrom, bodyFrom, tapFrom, nameFrom, extraFrom, tablesFrom, flat}
 use Rattle.table.proofs.Chunks.{chunks-append}

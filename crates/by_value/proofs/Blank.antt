@@ -13,7 +13,7 @@ use Rattle.reference.specs.declared.NameComponent.{NameComponent}
 use Rattle.reference.specs.declared.LiteComponent.{LiteComponent}
 use Rattle.reference.specs.declared.TaggedProfile.{TaggedProfile}
 use Rattle.reference.specs.declared.TaggedProfile.the-variants as Sort
-use Rattle.reference.specs.Tables.{filled, noView, noTap, noName, noExtra}
+use Rattle.reference.specs.Tabled.{filled, noView, noTap, noName, noExtra}
 use Rattle.table.specs.Region.{Region, stored}
 use Rattle.table.specs.Flat.{profileRegion, tapRegion, nameRegion, extraRegion}
 use Rattle.table.specs.Filed.{filed, noCounts}

@@ -8,7 +8,7 @@ use lib.Seq.{take-all}
 use Rattle.octets.specs.Octets.{joined, splice}
 use Rattle.octets.proofs.Splice.{splice-none, splice-splice, splice-comm}
 use Rattle.reference.specs.declared.Tables.{Tables}
-use Rattle.reference.specs.Tables.{Typed}
+use Rattle.reference.specs.Typed.{Typed}
 use Rattle.table.specs.Region.{Region, stored}
 use Rattle.table.specs.Flat.{bodyNumbers, tapNumbers, nameNumbers, extraNumbers, frontNumbers, profileRegion, tapRegion, nameRegion, extraRegion, flat}
 use Rattle.table.specs.Filed.{filed, noCounts}

@@ -2,7 +2,7 @@
 -- Assumes nothing.
 use Prim.Native.Nat.{ℕ, _+_, _-_, _%_, _≤_}
 use native.Mathlib.Nat.{add-sub-cancel-left}
-use mathlib.Core.Path.{_≡_, refl, sym, ap, subst, _∙_}
+use mathlib.Core.Path.{_≡_, refl, sym, ap, _∙_}
 use mathlib.Core.List.{List}
 use native.Mathlib.Omega.{arith}
 use lib.Dec.{ltb, eqb, nltb→le}
@@ -12,10 +12,11 @@ use Rattle.octets.proofs.Part.{length-part}
 use Rattle.reference.specs.declared.Refusal.{Refusal}
 use Rattle.reference.specs.declared.Answer.{Answer as Told}
 use Rattle.reference.specs.declared.Answer.the-variants.{Count, Refused}
-use Rattle.reference.specs.Meaning.{Reference, tapsOf, namesOf, extrasOf, total}
-use Rattle.reference.specs.Reader.{Answer, ok, refused, roomy, need, number, check, run, after, done, many, ending, readProfile, readReference, readWhole}
+use Rattle.reference.specs.Meaning.{Reference, tapsOf, namesOf, extrasOf, sum}
+use Rattle.reference.specs.Steps.{Answer, ok, refused, need, checked, number, run, after, done, many, ending}
+use Rattle.reference.specs.Places.{place-profile-count, place-reference-leftover}
+use Rattle.reference.specs.Reader.{roomy, readCount, readProfile, readReference, readWhole, answered}
 use Rattle.reference.specs.Questions.{Kind, kindOf}
-use Rattle.reference.specs.Writer.{answered}
 use Rattle.reference.proofs.Laws.{guard-ok, pass-ok, followed-ok}
 use Rattle.table.specs.Filed.{referenceFiled}
 use Rattle.reading.specs.Into.{ReadInto, tableLeft}
@@ -23,24 +24,24 @@ use Rattle.cache.specs.Rows.{foundText, refusedText, answerText}
 
 -- the type id that a reference's reader found
 found : (d : List ℕ) (end : ℕ) {m : Reference} {n : ℕ} → readReference d 0 end ≡ ok m n → (4 + be (part d 0 4) ≤ end) × (m .typeId ≡ part d 4 (be (part d 0 4)))
-unfolding readReference need number check run after done
+unfolding readReference need checked number run after done
 found d end {m} {n} e =
     let k : ℕ = be (part d 0 4) in
     let a = guard-ok (ltb end 8) _ _ e in
     let b = pass-ok (eqb (k % 4) 0) _ _ (a .1) in
     let c = guard-ok (ltb (end - 4) k) _ _ (b .1) in
-    let f = guard-ok (ltb end (4 + k + 4)) _ _ (c .1) in
-    let g = followed-ok (many (be (part d (4 + k) 4)) readProfile d (4 + k + 4) end) _ (f .1) in
+    let f = followed-ok (readCount 4 place-profile-count d (4 + k) end) _ (c .1) in
+    let g = followed-ok (many (f .0) readProfile d (f .1) end) _ (f .3) in
     let q : record { typeId = part d 4 k; profiles = g .0 } ≡ m = cc (g .3) in
-    (omega (arith, nltb→le end (4 + k + 4) (f .0)), sym (ap (λ (r : Reference). r .typeId) q))
+    (omega (arith, nltb→le end 8 (a .0), nltb→le (end - 4) k (c .0)), sym (ap (λ (r : Reference). r .typeId) q))
 
 -- 7 changes nothing of what it lets pass
 passed : (m : Reference) (next : ℕ) {a : Reference} {n : ℕ} → roomy m next ≡ ok a n → m ≡ a
 passed m next {a} {n} e =
     let p = guard-ok (ltb 8 (length (m .profiles))) _ _ e .1 in
-    let t = guard-ok (ltb 36 (total tapsOf (m .profiles))) _ _ p .1 in
-    let s = guard-ok (ltb 32 (total namesOf (m .profiles))) _ _ t .1 in
-    let x = guard-ok (ltb 32 (total extrasOf (m .profiles))) _ _ s .1 in
+    let t = guard-ok (ltb 36 (sum tapsOf (m .profiles))) _ _ p .1 in
+    let s = guard-ok (ltb 32 (sum namesOf (m .profiles))) _ _ t .1 in
+    let x = guard-ok (ltb 32 (sum extrasOf (m .profiles))) _ _ s .1 in
     cc x
 
 -- an accepted whole reading shows its type id from offset 4 on
@@ -48,7 +49,7 @@ pub type-id-stands : (d : List ℕ) {m : Reference} {n : ℕ} → readWhole d �
 unfolding readWhole ending
 type-id-stands d {m} {n} e =
     let k : ℕ = be (part d 0 4) in
-    let w = followed-ok (ending 4 readReference d 0 (length d)) roomy (guard-ok (ltb 65535 (length d)) _ _ e .1) in
+    let w = followed-ok (ending place-reference-leftover readReference d 0 (length d)) roomy (guard-ok (ltb 65535 (length d)) _ _ e .1) in
     let r = followed-ok (readReference d 0 (length d)) _ (w .2) in
     let o = pass-ok (eqb (r .1) (length d)) _ _ (r .3) .1 in
     let same : r .0 ≡ m = cc o ∙ passed (w .0) (w .1) (w .3) in
@@ -68,7 +69,7 @@ told-refused (ok m n) e = let z : _≡_ {A = ℕ} 0 1 = cc in absurd (omega arit
 told-refused (refused z) {y} e = let q : z ≡ y = cc in ap (λ (i : Refusal). refused i) q
 
 -- a whole reading into a lent table t, which left e: what its row says
-module _ (s t e : List ℕ) (r : Told) (h : ReadInto (readWhole s) t e r) where
+module _ (s : List ℕ) {t e : List ℕ} {r : Told} (h : ReadInto (readWhole s) t e r) where
   pub row-refused : {y : Refusal} → r ≡ Refused y → refusedText (y .number) ≡ answerText (readWhole s)
   unfolding answerText
   row-refused {y} q = let x = told-refused (readWhole s) (sym (h .answers) ∙ q) in rw x refl

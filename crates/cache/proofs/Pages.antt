@@ -1,12 +1,12 @@
 -- Rows put one after the other into a page: what the page holds and then the lines that are left are the lines from the start. Assumes nothing.
 use Prim.Native.Nat.{ℕ, suc, _+_, _-_, _*_, _≤_, _<_}
-use mathlib.Core.Path.{_≡_, refl, sym, ap, ap₂, _∙_}
+use mathlib.Core.Path.{_≡_, refl, sym, ap, _∙_}
 use mathlib.Core.Bool.{Bool, true, false}
 use mathlib.Core.List.{List, _++_, append-assoc}
 use native.Mathlib.Omega.{arith}
-use lib.ListN.{length, take, drop, length-append, length-drop}
-use lib.Seq.{length-take-le, take-at, drop-append-add, drop-append-le, take-append-le}
-use Rattle.octets.specs.Octets.{part, be, splice}
+use lib.ListN.{length, take, drop, length-append}
+use lib.Seq.{length-take-le, take-at}
+use Rattle.octets.specs.Octets.{part, splice}
 use Rattle.octets.specs.Put.{Put}
 use Rattle.octets.proofs.Splice.{splice-length}
 use Rattle.text.specs.Written.{Written}

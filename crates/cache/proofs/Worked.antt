@@ -4,7 +4,8 @@ use mathlib.Core.List.{List, [], _∷_, _++_}
 use Prim.Native.Nat.{ℕ}
 use Rattle.octets.specs.Octets.{be, octets}
 use Rattle.text.specs.Text.{digitsIn, decimal, hex, hexes}
-use Rattle.reference.specs.Reader.{done, need, number, run, check, choose, ending, within, inside, many, after, component, readTap, readLocation, readBinder, readExtra, readBiop, readAddress, readName, readService, readLite, readProfile, readReference, readWhole}
+use Rattle.reference.specs.Steps.{done, need, number, checked, run, rest, choose, ending, within, fits, apart, many, after}
+use Rattle.reference.specs.Reader.{readCount, readRun, readNamed, component, readFixed, readExtra, readTap, readLocation, readObjectLocation, readBinder, readBiop, readAddress, readName, readContext, readService, readLite, readBody, readProfile, readReference, readWhole}
 use Rattle.reference.specs.Questions.{kindNumbered, kindOf}
 use Rattle.reference.specs.Worked.{j}
 use Rattle.records.specs.Records.{layoutRecord, recordAt}
@@ -20,7 +21,7 @@ rows =
     49 ∷ 32 ∷ 52 ∷ 50 ∷ 32 ∷ 115 ∷ 114 ∷ 103 ∷ 32 ∷ 49 ∷ 32 ∷ 48 ∷ 10 ∷ 50 ∷ 32 ∷ 56 ∷ 32 ∷ 45 ∷ 32 ∷ 45 ∷ 32 ∷ 52 ∷ 10 ∷ 101 ∷ 110 ∷ 100 ∷ 32 ∷ 50 ∷ 10 ∷ []
 
 pub example : listed (layoutRecord j ++ layoutRecord odd) ≡ heading ++ rows
-unfolding be octets digitsIn decimal hex hexes done need number run check choose ending within inside many after component readTap readLocation readBinder readExtra readBiop readAddress readName readService readLite readProfile readReference readWhole kindNumbered kindOf layoutRecord recordAt foundText refusedText answerText rowOf endText brokenText linesFrom listed
+unfolding be octets digitsIn decimal hex hexes done need number checked run rest choose ending within fits apart many after readCount readRun readNamed component readFixed readExtra readTap readLocation readObjectLocation readBinder readBiop readAddress readName readContext readService readLite readBody readProfile readReference readWhole kindNumbered kindOf layoutRecord recordAt foundText refusedText answerText rowOf endText brokenText linesFrom listed
 example = refl
 
 -- nothing: `end 0`; a remainder under four octets: `broken at 0`

@@ -7,7 +7,8 @@ use lib.ListN.{length, take}
 use Rattle.octets.specs.Octets.{part, octets}
 use Rattle.text.specs.Text.{decimal, hexes}
 use Rattle.reference.specs.Meaning.{Reference}
-use Rattle.reference.specs.Reader.{Answer, ok, refused, readWhole}
+use Rattle.reference.specs.Steps.{Answer, ok, refused}
+use Rattle.reference.specs.Reader.{readWhole}
 use Rattle.reference.specs.Questions.{Kind, directory, file, stream, serviceGateway, streamEvent, unknown, kindOf, dir, fil, str, srg, ste}
 use Rattle.records.specs.declared.Record.{Record}
 use Rattle.records.specs.declared.Record.the-variants.{Got, Broken, End}

@@ -9,8 +9,8 @@ use lib.Dec.{eqb}
 use lib.ListN.{getD}
 use Rattle.reference.specs.declared.TaggedProfile.{TaggedProfile}
 use Rattle.reference.specs.declared.TaggedProfile.the-variants as Sort
-use Rattle.reference.specs.Reader.{pick}
-use Rattle.reference.specs.Tables.{tapsIn, namesIn}
+use Rattle.reference.specs.Steps.{pick}
+use Rattle.reference.specs.Used.{tapsIn, namesIn}
 use Rattle.table.specs.Flat.{bodyFrom, locationFrom, addressFrom, viewFrom}
 
 module _ (l : List ℕ) where

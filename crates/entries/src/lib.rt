@@ -3,7 +3,7 @@ ghost use mathlib.Core.Path.{_≡_};
 ghost use Prim.Native.Nat.{_+_, _*_, _%_, _≤_, _<_};
 ghost use lib.ListN.{length, getD};
 ghost use Rattle.octets.specs.Octets.{part};
-ghost use Rattle.reference.specs.Tables.{tapsIn, namesIn, extrasIn, bodyView};
+ghost use Rattle.reference.specs.Used.{tapsIn, namesIn, extrasIn, bodyView};
 ghost use Rattle.table.specs.Flat.{viewFrom, locationFrom, addressFrom, bodyOfTable, tapOfTable, nameOfTable, extraOfTable};
 use reference::LiteComponent;
 use reference::NameComponent;

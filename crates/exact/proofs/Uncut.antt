@@ -11,7 +11,7 @@ use lib.ListN.{length, take, getD}
 use borrow.Author.Tests.{ltb-true, eqb-true, lt-ltb, eq-eqb}
 use Rattle.octets.specs.Octets.{part}
 use Rattle.octets.proofs.Part.{row, row-part}
-use Rattle.reference.specs.Reader.{pick}
+use Rattle.reference.specs.Steps.{pick}
 use Rattle.reference.specs.declared.TaggedProfile.the-variants as Sort
 use Rattle.table.specs.Flat.{viewFrom, locationFrom, addressFrom, bodyNumbers, bodyFrom}
 use Rattle.exact.specs.Exact.{locationExact, addressExact, profileExact, tapExact, profilesExact, tapsExact, exact}

@@ -6,7 +6,7 @@ use mathlib.Core.List.{List}
 use lib.Dec.{ltb, eqb}
 use lib.ListN.{getD}
 use Rattle.octets.specs.Octets.{part}
-use Rattle.reference.specs.Reader.{pick}
+use Rattle.reference.specs.Steps.{pick}
 
 -- a BIOP profile: module below 2^16, major and minor version below 2^8
 abbrev pub locationExact : List ℕ → Bool

@@ -11,7 +11,7 @@ use Rattle.octets.proofs.Part.{length-part}
 use Rattle.octets.proofs.Put.{then, same}
 use Rattle.reference.specs.declared.View.{View}
 use Rattle.reference.specs.Layout.{tagged}
-use Rattle.reference.specs.Tables.{shown}
+use Rattle.reference.specs.Contents.{shown}
 use Rattle.image.specs.Sound.{prefixed, Within}
 
 -- the last field of a layout

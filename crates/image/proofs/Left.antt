@@ -8,7 +8,7 @@ use lib.ListN.{length}
 use Rattle.octets.specs.Octets.{Each, joined}
 use Rattle.octets.specs.Put.{Put}
 use Rattle.octets.proofs.Put.{none, then, same, kept}
-use Rattle.reference.specs.Checks.{sum}
+use Rattle.reference.specs.Meaning.{sum}
 
 -- Entries mean f, lay is what a meaning looks like, g the size, P what the writer asks. Of `all`, everything but xs was put into d from at on,
 -- which gave e, up to r.

@@ -7,7 +7,7 @@ ghost use lib.ListN.{length};
 ghost use Rattle.octets.specs.Octets.{octets};
 ghost use Rattle.octets.specs.Put.{Put};
 ghost use Rattle.reference.specs.Layout.{tagged, tag-location, layoutTap, layoutName, layoutExtra, layoutLocation, layoutAddress};
-ghost use Rattle.reference.specs.Tables.{shown, tapOf, nameOf, extraOf, locationOf, addressOf};
+ghost use Rattle.reference.specs.Contents.{shown, tapOf, nameOf, extraOf, locationOf, addressOf};
 ghost use Rattle.reference.specs.Writer.{tapSize, nameSize, extraSize, locationSize};
 ghost use Rattle.image.specs.Sound.{prefixed, Within, TapSound, NameSound, ExtraSound, LocationSound};
 use octets::copy;

@@ -16,9 +16,12 @@ use Rattle.reference.specs.declared.Refusal.{Refusal}
 use Rattle.reference.specs.declared.Tables.{Tables}
 use Rattle.reference.specs.Meaning.{Reference}
 use Rattle.reference.specs.Layout.{Leads}
-use Rattle.reference.specs.Reader.{readLeading, readWhole, seen}
-use Rattle.reference.specs.Tables.{tablesOf, tabled, noTables, usedOf, Typed, Unknown}
-use Rattle.reference.specs.Writer.{answered, imageOf, measured, written, leaves}
+use Rattle.reference.specs.Reader.{readLeading, readWhole, answered}
+use Rattle.reference.specs.Steps.{seen}
+use Rattle.reference.specs.Placed.{tablesOf}
+use Rattle.reference.specs.Tabled.{tabled, noTables, usedOf}
+use Rattle.reference.specs.Typed.{Typed, Unknown}
+use Rattle.reference.specs.Writer.{imageOf, measured, written, leaves}
 use Rattle.reference.specs.Promises.{taking, ShowsFields, GivesBack, ReadsBack, PutInFront, LengthIsWritten, SameUsed}
 use Rattle.reference.specs.Worked as Table
 use Rattle.reference.proofs.Promised as promised

@@ -10,7 +10,8 @@ use Rattle.reference.specs.declared.Answer.{Answer as Told}
 use Rattle.reference.specs.declared.Answer.the-variants.{Count, Refused}
 use Rattle.reference.specs.declared.Refusal.{Refusal}
 use Rattle.reference.specs.Checks.{Among}
-use Rattle.reference.specs.Reader.{refusal, pick}
+use Rattle.reference.specs.Refusals.{refusal}
+use Rattle.reference.specs.Steps.{pick}
 use Rattle.reference.specs.Writer.{imageOf, measured, written, leaves}
 use Rattle.reference.specs.Promises.{LengthIsWritten}
 use Rattle.reference.proofs.Asked.{picks-first, picks-second}

@@ -14,7 +14,10 @@ use Rattle.reference.specs.declared.Refusal.{Refusal}
 use Rattle.reference.specs.Meaning.{Reference, Room}
 use Rattle.reference.specs.Layout.{WellFormed, Leads}
 use Rattle.reference.specs.Reader.{readLeading, readWhole}
-use Rattle.reference.specs.Tables.{Used, tablesOf, noTables, usedOf, Unknown}
+use Rattle.reference.specs.Used.{Used}
+use Rattle.reference.specs.Placed.{tablesOf}
+use Rattle.reference.specs.Tabled.{noTables, usedOf}
+use Rattle.reference.specs.Typed.{Unknown}
 use Rattle.reference.specs.Writer.{imageOf}
 use Rattle.reference.specs.Promises.{GivesBack, ReadsBack, PutInFront, LengthIsWritten}
 use Rattle.reference.proofs.Accept.{exactly, whole}

@@ -5,7 +5,8 @@ use mathlib.Core.Path.{_≡_}
 use mathlib.Core.List.{List}
 use Rattle.reference.specs.declared.Answer.{Answer as Told}
 use Rattle.reference.specs.declared.Answer.the-variants.{Refused}
-use Rattle.reference.specs.Reader.{refusal, pick}
+use Rattle.reference.specs.Refusals.{refusal}
+use Rattle.reference.specs.Steps.{pick}
 use Rattle.reference.specs.Writer.{measured, written}
 use Rattle.reference.specs.Writer as Writer
 use Rattle.table.specs.Flat.{tablesFrom}

@@ -2,8 +2,9 @@
 // every slice, every table and every output gets an answer. A refusal is a number, a place and two figures (document 01); the promises
 // about these calls stand in proofs/Demands and, of those on a lent table, in proofs/Lent.
 ghost use mathlib.Core.Path.{_≡_};
-ghost use Rattle.reference.specs.Reader.{seen, readLeading, readWhole};
-ghost use Rattle.reference.specs.Writer.{answered, measured};
+ghost use Rattle.reference.specs.Steps.{seen};
+ghost use Rattle.reference.specs.Reader.{readLeading, readWhole, answered};
+ghost use Rattle.reference.specs.Writer.{measured};
 ghost use Rattle.reference.specs.Questions.{kindOf, tapNumbersOf, firstBiop, dvbAddress};
 ghost use Rattle.reference.specs.Names.{readShortName, shortAt};
 ghost use Rattle.reading.specs.Into.{ReadInto};

@@ -15,8 +15,9 @@ use Rattle.octets.specs.Octets.{part, be, splice}
 use Rattle.reference.specs.declared.TaggedProfile.the-variants as Sort
 use Rattle.reference.specs.declared.TaggedProfile.{TaggedProfile}
 use Rattle.reference.specs.declared.Profile.{Profile as Entry}
-use Rattle.reference.specs.Reader.{pick, refusal}
-use Rattle.reference.specs.Tables.{noProfile}
+use Rattle.reference.specs.Steps.{pick}
+use Rattle.reference.specs.Refusals.{refusal}
+use Rattle.reference.specs.Tabled.{noProfile}
 use Rattle.reference.specs.Questions.{index, nothing, refuses, isBiop, firstFrom, firstBiop}
 use Rattle.reference.proofs.Asked.{picks-first, picks-second}
 use Rattle.table.specs.Region.{chunks}

@@ -11,8 +11,8 @@ use Rattle.reference.specs.declared.Refusal.{Refusal}
 use Rattle.reference.specs.declared.Check.{Check}
 use Rattle.reference.specs.declared.Check.the-variants.{Pass}
 use Rattle.reference.specs.declared.Tables.{Tables}
-use Rattle.reference.specs.Reader.{pick}
-use Rattle.reference.specs.Tables.{usedOf}
+use Rattle.reference.specs.Steps.{pick}
+use Rattle.reference.specs.Tabled.{usedOf}
 use Rattle.reference.specs.Writer.{sizeOf, measureCheck, measured}
 use Rattle.reference.specs.Writer as Writer
 use lib.Dec.{eqb}

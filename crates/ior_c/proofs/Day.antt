@@ -6,9 +6,14 @@ use lib.ListN.{length, take, getD}
 use Rattle.octets.specs.Octets.{Octets}
 use Rattle.reference.specs.Meaning.{Reference}
 use Rattle.reference.specs.Layout.{Leads}
-use Rattle.reference.specs.Reader.{Answer, ok, readLeading, readWhole}
-use Rattle.reference.specs.Tables.{Used, contents, tablesOf, canon, tabled, usedOf, said}
-use Rattle.reference.specs.Writer.{answered, leaves}
+use Rattle.reference.specs.Steps.{Answer, ok}
+use Rattle.reference.specs.Reader.{readLeading, readWhole, answered}
+use Rattle.reference.specs.Used.{Used}
+use Rattle.reference.specs.Contents.{contents, said}
+use Rattle.reference.specs.Placed.{tablesOf}
+use Rattle.reference.specs.Standard.{canon}
+use Rattle.reference.specs.Tabled.{tabled, usedOf}
+use Rattle.reference.specs.Writer.{leaves}
 use Rattle.reference.specs.Promises.{GivesBack, SameUsed}
 use Rattle.reference.specs.declared.Answer.the-variants.{Count}
 use Rattle.reference.proofs.Accept.{whole, unique}

@@ -15,9 +15,12 @@ use Rattle.reference.specs.declared.Refusal.{Refusal}
 use Rattle.reference.specs.Meaning.{Reference}
 use Rattle.reference.specs.Layout.{Leads}
 use Rattle.reference.specs.Checks.{Among}
-use Rattle.reference.specs.Reader.{readLeading, readWhole}
-use Rattle.reference.specs.Tables.{Used, tablesOf, usedOf, Unknown}
-use Rattle.reference.specs.Writer.{answered, imageOf, written}
+use Rattle.reference.specs.Reader.{readLeading, readWhole, answered}
+use Rattle.reference.specs.Used.{Used}
+use Rattle.reference.specs.Placed.{tablesOf}
+use Rattle.reference.specs.Tabled.{usedOf}
+use Rattle.reference.specs.Typed.{Unknown}
+use Rattle.reference.specs.Writer.{imageOf, written}
 use Rattle.reference.specs.Promises.{taking, GivesBack, ReadsBack, PutInFront}
 use Rattle.reference.proofs.Accept.{exactly, whole}
 use Rattle.reference.proofs.Cases.{by-test, by-answer}

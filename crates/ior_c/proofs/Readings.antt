@@ -11,9 +11,11 @@ use Rattle.reference.specs.declared.Answer.the-variants.{Count, Refused}
 use Rattle.reference.specs.declared.Refusal.{Refusal}
 use Rattle.reference.specs.Meaning.{Reference, Room}
 use Rattle.reference.specs.Layout.{WellFormed}
-use Rattle.reference.specs.Reader.{Answer, ok, refused, readLeading, readWhole}
-use Rattle.reference.specs.Tables.{Used, tablesOf, usedOf}
-use Rattle.reference.specs.Writer.{answered}
+use Rattle.reference.specs.Steps.{Answer, ok, refused}
+use Rattle.reference.specs.Reader.{readLeading, readWhole, answered}
+use Rattle.reference.specs.Used.{Used}
+use Rattle.reference.specs.Placed.{tablesOf}
+use Rattle.reference.specs.Tabled.{usedOf}
 use Rattle.reference.proofs.Cases.{by-test, by-answer}
 use Rattle.reference.proofs.Numbers.{leading-numbers, whole-numbers, reading-number}
 use Rattle.reference.proofs.Promised.{refuses}

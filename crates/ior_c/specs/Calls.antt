@@ -6,8 +6,9 @@ use mathlib.Core.Path.{_≡_}
 use mathlib.Core.List.{List, [], _∷_}
 use lib.Dec.{eqb}
 use lib.ListN.{length}
-use Rattle.reference.specs.Reader.{readLeading, readWhole, seen, pick}
-use Rattle.reference.specs.Writer.{answered, measured, written, leaves}
+use Rattle.reference.specs.Reader.{readLeading, readWhole, answered}
+use Rattle.reference.specs.Steps.{seen, pick}
+use Rattle.reference.specs.Writer.{measured, written, leaves}
 use Rattle.reference.specs.Questions.{kindOf, tapNumbersOf, firstBiop, dvbAddress}
 use Rattle.reference.specs.Names.{readShortName, shortAt, shortWritten, shortLeaves}
 use Rattle.table.specs.Flat.{tablesFrom, nameFrom}

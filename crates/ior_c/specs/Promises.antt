@@ -6,7 +6,7 @@ use mathlib.Core.List.{List, [], _∷_}
 use lib.ListN.{length, take, getD}
 use Rattle.reference.specs.Meaning.{Reference}
 use Rattle.reference.specs.Checks.{Among}
-use Rattle.reference.specs.Tables.{said}
+use Rattle.reference.specs.Contents.{said}
 use Rattle.reference.specs.Promises.{GivesBack, SameUsed}
 use Rattle.table.specs.Flat.{tablesFrom}
 use Rattle.ior_c.specs.Calls.{IorReadWhole, IorWrite}

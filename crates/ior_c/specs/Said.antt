@@ -10,7 +10,7 @@ use Rattle.octets.specs.Octets.{be}
 use Rattle.reference.specs.declared.NameComponent.{NameComponent}
 use Rattle.reference.specs.declared.Answer.{Answer as Told}
 use Rattle.reference.specs.declared.Answer.the-variants.{Count, Refused}
-use Rattle.reference.specs.Reader.{Answer, ok, refused, pick}
+use Rattle.reference.specs.Steps.{Answer, ok, refused, pick}
 use Rattle.reference.specs.Questions.{Kind, directory, file, stream, serviceGateway, streamEvent, unknown, TapTells, both, neither, First, index, nothing, refuses}
 use Rattle.table.specs.Flat.{nameNumbers}
 use Rattle.exact.specs.Exact.{exact}

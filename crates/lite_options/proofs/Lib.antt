@@ -1,5 +1,2 @@
-pub mod Runs
-pub mod Heads
-pub mod Split
-pub mod Bounds
-pub mod Kept
+pub mod Beginning
+pub mod Rest

@@ -5,12 +5,12 @@ ghost use mathlib.Core.Path.{_≡_};
 ghost use Prim.Native.Nat.{_+_, _≤_};
 ghost use lib.ListN.{length};
 ghost use Rattle.reference.specs.Meaning.{lite};
-ghost use Rattle.reference.specs.Reader.{readName, readLite, many, ending, seen};
-ghost use Rattle.reference.specs.Tables.{view, nameAt};
-ghost use Rattle.components.specs.Told.{StoresNames, StoresBody, bodyTold};
-ghost use Rattle.lite_options.specs.Head.{readRun, readServiceHead, readServicePart, readLiteHead, addressSeen, addressHere, serviceSeen, headSeen};
-ghost use Rattle.lite_options.specs.Told.{runTold, nameTold, serviceTold, liteTold};
-ghost use Rattle.lite_options.specs.Rest.{endKept, restKept};
+ghost use Rattle.reference.specs.Reader.{readRun, readName, readContext, readLite};
+ghost use Rattle.reference.specs.Heads.{readServiceHead, readServicePart, readLiteHead};
+ghost use Rattle.reference.specs.Steps.{many, seen};
+ghost use Rattle.reference.specs.Placed.{view, nameAt};
+ghost use Rattle.components.specs.Told.{StoresNames, StoresBody};
+ghost use Rattle.lite_options.specs.Told.{runTold, nameTold, AddressIn, headTold, headOf, headAt, StoresRest};
 use components::BodyRead;
 use components::Ended;
 use components::FixedRead;
@@ -22,6 +22,21 @@ use octets::octet;
 use reference::NAMES;
 use reference::NameComponent;
 use reference::NsapAddress;
+use reference::PLACE_ADDRESS;
+use reference::PLACE_ADDRESS_LENGTH;
+use reference::PLACE_ADDRESS_SIZE;
+use reference::PLACE_CONTEXT_LENGTH;
+use reference::PLACE_ID_LENGTH;
+use reference::PLACE_KIND_LENGTH;
+use reference::PLACE_LITE_COMPONENTS;
+use reference::PLACE_LITE_EXTRA;
+use reference::PLACE_LITE_FIXED;
+use reference::PLACE_LITE_LEFTOVER;
+use reference::PLACE_LITE_ORDER;
+use reference::PLACE_NAME_COUNT;
+use reference::PLACE_SERVICE_HEADER;
+use reference::PLACE_SERVICE_LEFTOVER;
+use reference::PLACE_SERVICE_TAG;
 use reference::PROFILES;
 use reference::Refusal;
 use reference::TAG_SERVICE_LOCATION;
@@ -35,6 +50,20 @@ use table::Counts;
 use table::put_lite;
 use table::put_name;
 
+// Where the data has what stands before the first name, behind the two fixed octets: the ServiceLocation's tag and length, then its data,
+// which are the address behind its length, the name count and the first name.
+const TAG: usize = 2;
+
+const LENGTH: usize = 6;
+
+const SERVICE: usize = 10;
+
+const ADDRESS: usize = 11;
+
+const NAME_COUNT: usize = 31;
+
+const FIRST_NAME: usize = 35;
+
 enum RunRead {
     Got { view: View, next: usize },
     Not { why: Refusal },
@@ -45,47 +74,34 @@ enum NameRead {
     Not { why: Refusal },
 }
 
-// A ServiceLocation up to its first name, which stands at `next`.
-enum ServiceRead {
-    Got {
-        address: NsapAddress,
-        names: u32,
-        next: usize,
-    },
-    Not {
-        why: Refusal,
-    },
-}
-
-// What stands before the first name: the address, how many names and extras there are, and where the ServiceLocation ends.
-struct LiteHead {
+// What is known before the first name: the address, how many names and extras follow, and where the ServiceLocation ends.
+struct Head {
     address: NsapAddress,
     names: u32,
     extras: usize,
     stop: usize,
 }
 
-// LiteOptions data up to its first name, which stands at `next`.
-enum LiteRead {
-    Got { head: LiteHead, next: usize },
+enum HeadRead {
+    Got { head: Head },
     Not { why: Refusal },
 }
 
 // A run of octets behind its length of four octets; `place` is that of the length.
 fn read_run(d: &[u8], base: usize, pos: usize, end: usize, place: u8) -> RunRead
     requires { ⌜ (pos ≤ end) × (end ≤ length (now d)) × (base + length (now d) ≤ 65535) ⌝ }
-    ensures { λ r. ⌜ runTold r ≡ seen (view (base + pos + 4)) (readRun place (now (d .entry)) pos end) ⌝ }
+    ensures { λ r. ⌜ runTold r ≡ seen (view (base + pos + 4)) (readRun 4 place (now (d .entry)) pos end) ⌝ }
 {
     let data = pos + 4;
     if end < data {
         return RunRead::Not {
-            why: cut(place, data, end),
+            why: cut(place, pos, 4, end),
         };
     }
     let len = be32(d, pos) as usize;
     if end - data < len {
         return RunRead::Not {
-            why: too_long(len, end - data),
+            why: too_long(data, len, end),
         };
     }
     RunRead::Got {
@@ -98,134 +114,18 @@ fn read_name(d: &[u8], base: usize, pos: usize, end: usize) -> NameRead
     requires { ⌜ (pos ≤ end) × (end ≤ length (now d)) × (base + length (now d) ≤ 65535) ⌝ }
     ensures { λ r. ⌜ nameTold r ≡ seen (nameAt (base + pos)) (readName (now (d .entry)) pos end) ⌝ }
 {
-    match read_run(d, base, pos, end, 20) {
+    match read_run(d, base, pos, end, PLACE_ID_LENGTH) {
         RunRead::Not { why } => NameRead::Not { why },
         RunRead::Got {
             view: id,
             next: mid,
-        } => match read_run(d, base, mid, end, 21) {
+        } => match read_run(d, base, mid, end, PLACE_KIND_LENGTH) {
             RunRead::Not { why } => NameRead::Not { why },
             RunRead::Got { view: kind, next } => {
                 let name = NameComponent { id, kind };
                 NameRead::Got { name, next }
             }
         },
-    }
-}
-
-// The address at `pos`, of which twenty octets are there.
-fn read_address(d: &[u8], pos: usize) -> NsapAddress
-    requires { ⌜ pos + 20 ≤ length (now d) ⌝ }
-    ensures { λ r. ⌜ r ≡ addressSeen (addressHere (now (d .entry)) pos) ⌝ }
-{
-    NsapAddress {
-        carousel: be32(d, pos + 2),
-        specifier0: octet(d, pos + 7),
-        specifier1: octet(d, pos + 8),
-        specifier2: octet(d, pos + 9),
-        transport_stream: be16(d, pos + 10),
-        original_network: be16(d, pos + 12),
-        service: be16(d, pos + 14),
-    }
-}
-
-// A ServiceLocation up to its first name, in d[pos..stop].
-fn read_service_head(d: &[u8], pos: usize, stop: usize) -> ServiceRead
-    requires { ⌜ (pos ≤ stop) × (stop ≤ length (now d)) ⌝ }
-    ensures { λ r. ⌜ serviceTold r ≡ seen serviceSeen (readServiceHead (now (d .entry)) pos stop) ⌝ }
-{
-    let start = pos + 1;
-    if stop < start {
-        return ServiceRead::Not {
-            why: cut(17, start, stop),
-        };
-    }
-    let size = octet(d, pos);
-    if size != 20 {
-        return ServiceRead::Not { why: wrong(4, 36) };
-    }
-    let count = start + 20;
-    if stop < count {
-        return ServiceRead::Not {
-            why: cut(18, count, stop),
-        };
-    }
-    let first = count + 4;
-    if stop < first {
-        return ServiceRead::Not {
-            why: cut(19, first, stop),
-        };
-    }
-    ServiceRead::Got {
-        address: read_address(d, start),
-        names: be32(d, count),
-        next: first,
-    }
-}
-
-// The context of a ServiceLocation that must end at `end`.
-fn read_context(d: &[u8], base: usize, pos: usize, end: usize) -> RunRead
-    requires { ⌜ (pos ≤ end) × (end ≤ length (now d)) × (base + length (now d) ≤ 65535) ⌝ }
-    ensures { λ r. ⌜ runTold r ≡ seen (view (base + pos + 4)) (ending 23 (readRun 22) (now (d .entry)) pos end) ⌝ }
-{
-    match read_run(d, base, pos, end, 22) {
-        RunRead::Not { why } => RunRead::Not { why },
-        RunRead::Got { view, next } => {
-            if next != end {
-                return RunRead::Not {
-                    why: left_over(23, end - next),
-                };
-            }
-            RunRead::Got { view, next }
-        }
-    }
-}
-
-// The ServiceLocation, which stands at 2, up to its first name; `extras` components follow it.
-fn read_service_part(d: &[u8], extras: usize) -> LiteRead
-    ensures { λ r. ⌜ liteTold r ≡ seen headSeen (readServicePart extras (now (d .entry)) 2 (length (now (d .entry)))) ⌝ }
-{
-    let end = d.len();
-    if end < 10 {
-        return LiteRead::Not {
-            why: cut(16, 10, end),
-        };
-    }
-    let tag = be32(d, 2);
-    if tag != TAG_SERVICE_LOCATION {
-        return LiteRead::Not { why: wrong(3, 32) };
-    }
-    let len = be32(d, 6) as usize;
-    if end - 10 < len {
-        return LiteRead::Not {
-            why: too_long(len, end - 10),
-        };
-    }
-    let stop = 10 + len;
-    match read_service_head(d, 10, stop) {
-        ServiceRead::Not { why } => LiteRead::Not { why },
-        ServiceRead::Got {
-            address,
-            names,
-            next,
-        } => {
-            let head = LiteHead {
-                address,
-                names,
-                extras,
-                stop,
-            };
-            LiteRead::Got { head, next }
-        }
-    }
-}
-
-fn read_lite_head(d: &[u8]) -> LiteRead
-    ensures { λ r. ⌜ liteTold r ≡ seen headSeen (readLiteHead (now (d .entry)) 0 (length (now (d .entry)))) ⌝ }
-{
-    match read_fixed(d, 1, 15, 31, 35) {
-        FixedRead::Not { why } => LiteRead::Not { why },
-        FixedRead::Got { count } => read_service_part(d, count - 1),
     }
 }
 
@@ -262,60 +162,153 @@ fn read_names(
     Ended::At(cur)
 }
 
-// The extras, which stand at `pos` and end the data; then the profile is entry i of the table.
-fn read_lite_end(
-    d: &[u8],
-    base: usize,
-    head: LiteHead,
-    context: View,
-    pos: usize,
-    table: &mut [u32],
-    i: usize,
-    used: Counts,
-) -> BodyRead
-    requires { ⌜ (pos ≤ length (now d)) × (base + length (now d) ≤ 65535) × (head .extras ≤ 255) × (used .names ≤ 65535) × (used .extras ≤ 65535) × (length (now table) ≡ 490) ⌝ }
-    ensures { λ r. ⌜ bodyTold (length (now (d .entry))) (now (table .exit)) r ≡ endKept (now (d .entry)) base head context pos used i (now (table .entry)) ⌝ }
+// The context, which ends a ServiceLocation.
+fn read_context(d: &[u8], base: usize, pos: usize, end: usize) -> RunRead
+    requires { ⌜ (pos ≤ end) × (end ≤ length (now d)) × (base + length (now d) ≤ 65535) ⌝ }
+    ensures { λ r. ⌜ runTold r ≡ seen (view (base + pos + 4)) (readContext (now (d .entry)) pos end) ⌝ }
 {
-    let names = head.names;
-    let extras = head.extras;
-    let first = used.extras;
-    match read_extras(d, base, pos, extras, 24, 25, table, first) {
-        Ended::Not(why) => BodyRead::Not { why },
-        Ended::At(last) => {
-            if i < PROFILES {
-                put_lite(head.address, names, context, extras as u32, table, i);
+    match read_run(d, base, pos, end, PLACE_CONTEXT_LENGTH) {
+        RunRead::Not { why } => RunRead::Not { why },
+        RunRead::Got { view, next } => {
+            if next != end {
+                return RunRead::Not {
+                    why: left_over(PLACE_SERVICE_LEFTOVER, next, end),
+                };
             }
-            let counts = Counts {
-                taps: used.taps,
-                names: used.names + (names as usize),
-                extras: first + extras,
-            };
-            BodyRead::Got { used: counts }
+            RunRead::Got { view, next }
         }
     }
 }
 
-// LiteOptions data from its first name on, which stands at `pos`.
+// The address at `pos`, of which twenty octets are there.
+fn read_address(d: &[u8], pos: usize) -> NsapAddress
+    requires { ⌜ pos + 20 ≤ length (now d) ⌝ }
+    ensures { λ r. ⌜ AddressIn (now (d .entry)) pos r ⌝ }
+{
+    NsapAddress {
+        carousel: be32(d, pos + 2),
+        specifier0: octet(d, pos + 7),
+        specifier1: octet(d, pos + 8),
+        specifier2: octet(d, pos + 9),
+        transport_stream: be16(d, pos + 10),
+        original_network: be16(d, pos + 12),
+        service: be16(d, pos + 14),
+    }
+}
+
+// A ServiceLocation that ends at `stop`, up to its first name; `extras` components follow it.
+fn read_service_head(d: &[u8], stop: usize, extras: usize) -> HeadRead
+    requires { ⌜ stop ≤ length (now d) ⌝ }
+    ensures { λ r. ⌜ headTold r ≡ seen (headOf extras stop) (readServiceHead (now (d .entry)) 10 stop) ⌝ }
+{
+    if stop < ADDRESS {
+        return HeadRead::Not {
+            why: cut(PLACE_ADDRESS_LENGTH, SERVICE, 1, stop),
+        };
+    }
+    let size = octet(d, SERVICE);
+    if size != 20 {
+        return HeadRead::Not {
+            why: wrong(4, PLACE_ADDRESS_SIZE),
+        };
+    }
+    if stop < NAME_COUNT {
+        return HeadRead::Not {
+            why: cut(PLACE_ADDRESS, ADDRESS, 20, stop),
+        };
+    }
+    if stop < FIRST_NAME {
+        return HeadRead::Not {
+            why: cut(PLACE_NAME_COUNT, NAME_COUNT, 4, stop),
+        };
+    }
+    let head = Head {
+        address: read_address(d, ADDRESS),
+        names: be32(d, NAME_COUNT),
+        extras,
+        stop,
+    };
+    HeadRead::Got { head }
+}
+
+// The component that holds the ServiceLocation, up to its first name.
+fn read_service_part(d: &[u8], extras: usize) -> HeadRead
+    ensures { λ r. ⌜ headTold r ≡ seen (λ s. headOf extras (s .stop) (s .head)) (readServicePart (now (d .entry)) 2 (length (now (d .entry)))) ⌝ }
+{
+    let end = d.len();
+    if end < SERVICE {
+        return HeadRead::Not {
+            why: cut(PLACE_SERVICE_HEADER, TAG, 8, end),
+        };
+    }
+    let tag = be32(d, TAG);
+    if tag != TAG_SERVICE_LOCATION {
+        return HeadRead::Not {
+            why: wrong(3, PLACE_SERVICE_TAG),
+        };
+    }
+    let len = be32(d, LENGTH) as usize;
+    if end - SERVICE < len {
+        return HeadRead::Not {
+            why: too_long(SERVICE, len, end),
+        };
+    }
+    read_service_head(d, SERVICE + len, extras)
+}
+
+// LiteOptions data up to its first name.
+fn read_lite_head(d: &[u8]) -> HeadRead
+    ensures { λ r. ⌜ headTold r ≡ seen headAt (readLiteHead (now (d .entry)) 0 (length (now (d .entry)))) ⌝ }
+{
+    match read_fixed(
+        d,
+        1,
+        PLACE_LITE_FIXED,
+        PLACE_LITE_ORDER,
+        PLACE_LITE_COMPONENTS,
+    ) {
+        FixedRead::Not { why } => HeadRead::Not { why },
+        FixedRead::Got { count } => read_service_part(d, count - 1),
+    }
+}
+
+// LiteOptions data from its first name on: the names, the context, the extras, which end the data; then its own entry, profile i. What is
+// read does not depend on the octets of the address that its head leaves out.
 fn read_lite_rest(
     d: &[u8],
-    base: usize,
-    head: LiteHead,
-    pos: usize,
+    at: usize,
+    head: Head,
     table: &mut [u32],
     i: usize,
-    used: Counts,
+    mut used: Counts,
 ) -> BodyRead
-    requires { ⌜ (pos ≤ head .stop) × (head .stop ≤ length (now d)) × (base + length (now d) ≤ 65535) × (head .extras ≤ 255) × (used .names ≤ 65535) × (used .extras ≤ 65535) × (length (now table) ≡ 490) ⌝ }
-    ensures { λ r. ⌜ bodyTold (length (now (d .entry))) (now (table .exit)) r ≡ restKept (now (d .entry)) base head pos used i (now (table .entry)) ⌝ }
+    requires { ⌜ (35 ≤ head .stop) × (head .stop ≤ length (now d)) × (at + 8 + length (now d) ≤ 65535) × (head .extras ≤ 255) × (used .names ≤ 65535) × (used .extras ≤ 65535) × (length (now table) ≡ 490) ⌝ }
+    ensures { λ r. ⌜ StoresRest at (now (table .entry)) i used head (now (d .entry)) (now (table .exit)) r ⌝ }
 {
+    let base = at + 8;
     let names = head.names as usize;
-    let stop = head.stop;
-    let first = used.names;
-    match read_names(d, base, pos, stop, names, table, first) {
+    let extras = head.extras;
+    let first_name = used.names;
+    let first_extra = used.extras;
+    let place = PLACE_LITE_EXTRA;
+    let left = PLACE_LITE_LEFTOVER;
+    match read_names(d, base, FIRST_NAME, head.stop, names, table, first_name) {
         Ended::Not(why) => BodyRead::Not { why },
-        Ended::At(mid) => match read_context(d, base, mid, stop) {
+        Ended::At(mid) => match read_context(d, base, mid, head.stop) {
             RunRead::Not { why } => BodyRead::Not { why },
-            RunRead::Got { view, next } => read_lite_end(d, base, head, view, next, table, i, used),
+            RunRead::Got { view, next } => {
+                match read_extras(d, base, next, extras, place, left, table, first_extra) {
+                    Ended::Not(why) => BodyRead::Not { why },
+                    Ended::At(last) => {
+                        if i < PROFILES {
+                            put_lite(head.address, head.names, view, extras as u32, table, i);
+                        }
+                        used.names = first_name + names;
+                        used.extras = first_extra + extras;
+                        BodyRead::Got { used }
+                    }
+                }
+            }
         },
     }
 }
@@ -327,7 +320,7 @@ pub fn read_lite(d: &[u8], at: usize, table: &mut [u32], i: usize, used: Counts)
     ensures { λ r. ⌜ StoresBody at (now (table .entry)) i used (seen (λ l. lite l) (readLite (now (d .entry)) 0 (length (now (d .entry))))) (length (now (d .entry))) (now (table .exit)) r ⌝ }
 {
     match read_lite_head(d) {
-        LiteRead::Not { why } => BodyRead::Not { why },
-        LiteRead::Got { head, next } => read_lite_rest(d, at + 8, head, next, table, i, used),
+        HeadRead::Not { why } => BodyRead::Not { why },
+        HeadRead::Got { head } => read_lite_rest(d, at, head, table, i, used),
     }
 }

@@ -15,8 +15,9 @@ use Rattle.reference.specs.declared.View.{View}
 use Rattle.reference.specs.declared.Check.{Check}
 use Rattle.reference.specs.declared.Check.the-variants.{Pass, Refuse}
 use Rattle.reference.specs.declared.Answer.{Answer as Told}
-use Rattle.reference.specs.Tables.{tapsIn, namesIn, extrasIn, owned, bodyView}
-use Rattle.reference.specs.Checks.{both, each, sum}
+use Rattle.reference.specs.Used.{tapsIn, namesIn, extrasIn, owned, bodyView}
+use Rattle.reference.specs.Checks.{both, each}
+use Rattle.reference.specs.Meaning.{sum}
 use Rattle.reference.specs.Writer.{tapSize, nameSize, extraSize, bodySize, ownSize, sizeOf, counted, countsCheck, viewCheck, bodyViews, entryViews, tapViews, nameViews, extraViews, viewsCheck, told}
 use Rattle.table.specs.Flat.{tablesFrom}
 use Rattle.measuring.specs.ByTable.{fixedSize, entrySize, usedIn, measuredEach, added}

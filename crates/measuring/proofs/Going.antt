@@ -8,7 +8,8 @@ use Rattle.reference.specs.declared.Refusal.{Refusal}
 use Rattle.reference.specs.declared.Check.{Check}
 use Rattle.reference.specs.declared.Check.the-variants.{Pass, Refuse}
 use Rattle.reference.specs.declared.Answer.the-variants.{Count, Refused}
-use Rattle.reference.specs.Checks.{both, each, sum}
+use Rattle.reference.specs.Checks.{both, each}
+use Rattle.reference.specs.Meaning.{sum}
 use Rattle.reference.specs.Writer.{told}
 use Rattle.reference.proofs.Checks.{stop, go}
 use Rattle.measuring.specs.ByTable.{measuredEach}

@@ -9,8 +9,8 @@ use Rattle.reference.specs.declared.Tables.{Tables}
 use Rattle.reference.specs.declared.Check.{Check}
 use Rattle.reference.specs.declared.Check.the-variants.{Pass, Refuse}
 use Rattle.reference.specs.declared.Answer.the-variants.{Count, Refused}
-use Rattle.reference.specs.Reader.{refusal}
-use Rattle.reference.specs.Tables.{usedOf}
+use Rattle.reference.specs.Refusals.{refusal}
+use Rattle.reference.specs.Tabled.{usedOf}
 use Rattle.reference.specs.Checks.{both}
 use Rattle.reference.specs.Writer.{sizeOf, sourceCheck, usedCheck, sumCheck, countsCheck, viewsCheck, imageCheck, measureCheck, told}
 use Rattle.reference.proofs.Checks.{stop, go, le-test, lt-test}

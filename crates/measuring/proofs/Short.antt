@@ -16,8 +16,10 @@ use Rattle.reference.specs.declared.Profile.{Profile as Entry}
 use Rattle.reference.specs.declared.Refusal.{Refusal}
 use Rattle.reference.specs.declared.Check.{Check}
 use Rattle.reference.specs.declared.Check.the-variants.{Pass, Refuse}
-use Rattle.reference.specs.Tables.{Own, tapsIn, namesIn, extrasIn, ownedOf, bodyView, noProfile}
-use Rattle.reference.specs.Checks.{both, each, sum}
+use Rattle.reference.specs.Used.{Own, tapsIn, namesIn, extrasIn, ownedOf, bodyView}
+use Rattle.reference.specs.Tabled.{noProfile}
+use Rattle.reference.specs.Checks.{both, each}
+use Rattle.reference.specs.Meaning.{sum}
 use Rattle.reference.specs.Writer.{tapSize, counted, shortCheck, extraShort, ownShort}
 use Rattle.reference.proofs.Checks.{stop, go}
 use Rattle.reference.proofs.Walk.{ahead, ahead-open, ahead-end, counted-open, counted-within}

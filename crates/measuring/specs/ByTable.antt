@@ -8,8 +8,10 @@ use Rattle.reference.specs.declared.Profile.{Profile as Entry}
 use Rattle.reference.specs.declared.Check.{Check}
 use Rattle.reference.specs.declared.Answer.{Answer as Told}
 use Rattle.reference.specs.declared.Answer.the-variants.{Count, Refused}
-use Rattle.reference.specs.Tables.{Used, tapsIn, namesIn, extrasIn, usedOf, bodyView}
-use Rattle.reference.specs.Checks.{each, sum}
+use Rattle.reference.specs.Used.{Used, tapsIn, namesIn, extrasIn, bodyView}
+use Rattle.reference.specs.Tabled.{usedOf}
+use Rattle.reference.specs.Checks.{each}
+use Rattle.reference.specs.Meaning.{sum}
 use Rattle.reference.specs.Writer.{counted, told}
 use Rattle.table.specs.declared.Counts.{Counts}
 use Rattle.table.specs.Flat.{tablesFrom}

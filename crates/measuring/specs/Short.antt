@@ -8,7 +8,7 @@ use Rattle.reference.specs.declared.Tap.{Tap}
 use Rattle.reference.specs.declared.LiteComponent.{LiteComponent}
 use Rattle.reference.specs.declared.TaggedProfile.{TaggedProfile}
 use Rattle.reference.specs.declared.Check.{Check}
-use Rattle.reference.specs.Tables.{tapsIn, extrasIn}
+use Rattle.reference.specs.Used.{tapsIn, extrasIn}
 use Rattle.reference.specs.Writer.{bodyShort}
 use Rattle.table.specs.Flat.{bodyOfTable}
 use Rattle.measuring.specs.ByTable.{usedIn}

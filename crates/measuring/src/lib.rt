@@ -5,11 +5,11 @@ ghost use Prim.Native.Nat.{_+_, _≤_, _<_};
 ghost use lib.ListN.{length, getD};
 ghost use Rattle.octets.specs.Octets.{part};
 ghost use Rattle.reference.specs.declared.Check.the-variants.{Pass};
-ghost use Rattle.reference.specs.Checks.{both, each, sum};
-ghost use Rattle.reference.specs.Tables.{usedOf, ownedOf};
-ghost use Rattle.reference.specs.Writer.{tapSize, nameSize, extraSize, sizeOf, told, measured};
-ghost use Rattle.reference.specs.Writer.{usedCheck, sumCheck, countsCheck, viewCheck, entryViews, tapViews, nameViews, extraViews, viewsCheck};
-ghost use Rattle.reference.specs.Writer.{shortCheck, extraShort, ownShort, measureCheck};
+ghost use Rattle.reference.specs.Checks.{both, each};
+ghost use Rattle.reference.specs.Meaning.{sum};
+ghost use Rattle.reference.specs.Tabled.{usedOf};
+ghost use Rattle.reference.specs.Used.{ownedOf};
+ghost use Rattle.reference.specs.Writer.{tapSize, nameSize, extraSize, sizeOf, told, measured, usedCheck, sumCheck, countsCheck, viewCheck, entryViews, tapViews, nameViews, extraViews, viewsCheck, shortCheck, extraShort, ownShort, measureCheck};
 ghost use Rattle.table.specs.Flat.{tablesFrom, bodyOfTable};
 ghost use Rattle.measuring.specs.ByTable.{fixedSize, entrySize, usedIn, sumsOf, measuredEach, countOf, added};
 ghost use Rattle.measuring.specs.Short.{shortHere, Within};
@@ -349,7 +349,7 @@ fn check_short(size: usize) -> Check
     ensures { λ r. ⌜ r ≡ shortCheck size ⌝ }
 {
     if LONGEST < size {
-        return Check::Refuse(too_long(size, LONGEST));
+        return Check::Refuse(too_long(0, size, LONGEST));
     }
     Check::Pass
 }

@@ -10,8 +10,8 @@ use Rattle.reference.specs.declared.Refusal.{Refusal}
 use Rattle.reference.specs.declared.Answer.{Answer as Told}
 use Rattle.reference.specs.declared.Answer.the-variants.{Count, Refused}
 use Rattle.reference.specs.Meaning.{Name}
-use Rattle.reference.specs.Reader.{Answer, ok, refused, seen}
-use Rattle.reference.specs.Tables.{nameOf}
+use Rattle.reference.specs.Steps.{Answer, ok, refused, seen}
+use Rattle.reference.specs.Contents.{nameOf}
 use Rattle.reference.specs.Names.{LeadsShort, readShortName, shortAt}
 use Rattle.reference.proofs.Steps.{seen-ok}
 use Rattle.reference.proofs.Names.{short-accepted, short-only-accepted, short-shown, short-refused, short-gives-back, short-output-leads, short-output-reads-back}

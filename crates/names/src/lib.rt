@@ -7,6 +7,8 @@ use reference::Answer;
 use reference::Check;
 use reference::MOST;
 use reference::NameComponent;
+use reference::PLACE_SHORT_ID_LENGTH;
+use reference::PLACE_SHORT_KIND_LENGTH;
 use reference::Refusal;
 use reference::View;
 use reference::cut;
@@ -14,19 +16,20 @@ use reference::no_room;
 use reference::outside;
 use reference::too_large;
 use reference::too_long;
-use reference::view_of;
 ghost use mathlib.Core.Path.{_≡_};
 ghost use mathlib.Core.List.{_++_};
-ghost use Prim.Native.Nat.{_+_, _≤_};
+ghost use Prim.Native.Nat.{_+_, _<_, _≤_};
 ghost use lib.ListN.{length};
 ghost use Rattle.octets.specs.Octets.{octets};
 ghost use Rattle.octets.specs.Put.{Put};
-ghost use Rattle.reference.specs.Reader.{seen};
-ghost use Rattle.reference.specs.Tables.{shown, view};
+ghost use Rattle.reference.specs.Steps.{seen};
+ghost use Rattle.reference.specs.Reader.{readRun};
+ghost use Rattle.reference.specs.Contents.{shown};
+ghost use Rattle.reference.specs.Placed.{view};
 ghost use Rattle.reference.specs.Checks.{both};
 ghost use Rattle.reference.specs.Writer.{shortCheck};
 ghost use Rattle.reference.specs.Names.{readShortName, shortAt, shortNameCheck, shortSize};
-ghost use Rattle.names.specs.Told.{shortTold, runTold, counted};
+ghost use Rattle.names.specs.Told.{shortTold, runTold};
 ghost use Rattle.names.specs.Writes.{Writes};
 
 // The views of a name's id and kind and the position behind it, or the refusal.
@@ -35,42 +38,40 @@ pub enum ShortNameRead {
     Not { why: Refusal },
 }
 
-// The same of one run of octets.
+// The view of one run of octets, or the refusal.
 enum RunRead {
-    Got { view: View, next: usize },
-    Not { why: Refusal },
+    Got(View),
+    Not(Refusal),
 }
-
-const PLACE_ID: u8 = 26;
-
-const PLACE_KIND: u8 = 27;
 
 // The most octets that a length of one octet can say.
 const LONGEST: usize = 255;
 
-// The run of octets behind the length of one octet at `pos`; the place is that length's.
+// Where a view ends; in 64 bits the sum cannot wrap.
+fn end_of(v: View) -> usize
+    ensures { λ r. ⌜ r ≡ v .at + v .len ⌝ }
+{
+    v.at as usize + v.len as usize
+}
+
+// The run of octets behind the length of one octet at `pos`, which may be where any view ends; the place is that length's.
 fn read_run(s: &[u8], pos: usize, place: u8) -> RunRead
-    requires { ⌜ length (now s) ≤ 65535 ⌝ }
-    requires { ⌜ pos ≤ length (now s) ⌝ }
-    ensures { λ r. ⌜ runTold r ≡ seen (view (pos + 1)) (counted place (now (s .entry)) pos (length (now (s .entry)))) ⌝ }
+    requires { ⌜ (length (now s) ≤ 65535) × (pos < 0x200000000) ⌝ }
+    ensures { λ r. ⌜ runTold r ≡ seen (view (pos + 1)) (readRun 1 place (now (s .entry)) pos (length (now (s .entry)))) ⌝ }
 {
     let end = s.len();
     let start = pos + 1;
     if end < start {
-        return RunRead::Not {
-            why: cut(place, start, end),
-        };
+        return RunRead::Not(cut(place, pos, 1, end));
     }
     let len = octet(s, pos) as usize;
     if end - start < len {
-        return RunRead::Not {
-            why: too_long(len, end - start),
-        };
+        return RunRead::Not(too_long(start, len, end));
     }
-    RunRead::Got {
-        view: view_of(0, start, len),
-        next: start + len,
-    }
+    RunRead::Got(View {
+        at: start as u32,
+        len: len as u32,
+    })
 }
 
 // The name at the start of `s`: 6 first, then its id, then its kind.
@@ -83,26 +84,19 @@ pub fn read_short_name(s: &[u8]) -> ShortNameRead
             why: too_large(6, n),
         };
     }
-    match read_run(s, 0, PLACE_ID) {
-        RunRead::Not { why } => ShortNameRead::Not { why },
-        RunRead::Got {
-            view: id,
-            next: after,
-        } => match read_run(s, after, PLACE_KIND) {
-            RunRead::Not { why: late } => ShortNameRead::Not { why: late },
-            RunRead::Got { view: kind, next } => {
+    match read_run(s, 0, PLACE_SHORT_ID_LENGTH) {
+        RunRead::Not(why) => ShortNameRead::Not { why },
+        RunRead::Got(id) => match read_run(s, end_of(id), PLACE_SHORT_KIND_LENGTH) {
+            RunRead::Not(late) => ShortNameRead::Not { why: late },
+            RunRead::Got(kind) => {
                 let name = NameComponent { id, kind };
-                ShortNameRead::Got { name, next }
+                ShortNameRead::Got {
+                    name,
+                    next: end_of(kind),
+                }
             }
         },
     }
-}
-
-// Where a view ends; in 64 bits the sum cannot wrap.
-fn end_of(v: View) -> usize
-    ensures { λ r. ⌜ r ≡ v .at + v .len ⌝ }
-{
-    v.at as usize + v.len as usize
 }
 
 fn size_of(name: NameComponent) -> usize
@@ -137,10 +131,10 @@ fn check_lengths(id: usize, kind: usize) -> Check
     ensures { λ r. ⌜ r ≡ both (shortCheck id) (shortCheck kind) ⌝ }
 {
     if LONGEST < id {
-        return Check::Refuse(too_long(id, LONGEST));
+        return Check::Refuse(too_long(0, id, LONGEST));
     }
     if LONGEST < kind {
-        return Check::Refuse(too_long(kind, LONGEST));
+        return Check::Refuse(too_long(0, kind, LONGEST));
     }
     Check::Pass
 }

@@ -7,7 +7,7 @@ use lib.ListN.{length, getD}
 use Rattle.octets.specs.Octets.{Each, part}
 use Rattle.octets.specs.Put.{Put}
 use Rattle.octets.proofs.Part.{length-part, ahead, ahead-start, ahead-open, ahead-end}
-use Rattle.reference.specs.Checks.{sum}
+use Rattle.reference.specs.Meaning.{sum}
 use Rattle.reference.proofs.Sizes.{length-map}
 use Rattle.image.proofs.Left as Rest
 use Rattle.image.proofs.Left.{Left}

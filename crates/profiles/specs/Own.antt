@@ -11,10 +11,10 @@ use Rattle.reference.specs.declared.ObjectLocation.{ObjectLocation}
 use Rattle.reference.specs.declared.NsapAddress.{NsapAddress}
 use Rattle.reference.specs.declared.TaggedProfile.{TaggedProfile}
 use Rattle.reference.specs.declared.TaggedProfile.the-variants as Sort
-use Rattle.reference.specs.Meaning.{Service}
+use Rattle.reference.specs.Meaning.{Service, sum}
 use Rattle.reference.specs.Layout.{dataOf, layoutProfile}
-use Rattle.reference.specs.Tables.{Own, shown, nameOf, addressOf, profileOf}
-use Rattle.reference.specs.Checks.{sum}
+use Rattle.reference.specs.Used.{Own}
+use Rattle.reference.specs.Contents.{shown, nameOf, addressOf, profileOf}
 use Rattle.reference.specs.Writer.{binderSize, bodySize, ownSize}
 use Rattle.table.specs.Flat.{tablesFrom}
 use Rattle.image.specs.Sound.{Within, TapSound, NameSound, ExtraSound, LocationSound}

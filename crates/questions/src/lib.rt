@@ -3,6 +3,7 @@
 use octets::be32;
 use octets::octet;
 use reference::NsapAddress;
+use reference::PLACE_PROFILES;
 use reference::PROFILES;
 use reference::Profile;
 use reference::Refusal;
@@ -48,9 +49,6 @@ const SRG: u32 = 0x73726700;
 const STE: u32 = 0x73746500;
 
 const USE_DELIVERY: u16 = 0x0016;
-
-// The place of a refusal that names the table of profiles.
-const PLACE_PROFILES: u8 = 40;
 
 fn kind_numbered(n: u32) -> ObjectKind
     ensures { λ r. ⌜ kindTold r ≡ kindNumbered n ⌝ }
@@ -143,14 +141,11 @@ pub fn first_biop(t: Tables) -> FirstBiop
 pub fn is_dvb(a: [u8; 20]) -> bool
     ensures { λ r. ⌜ r ≡ dvbAddress a ⌝ }
 {
-    if octet(&a, 0) != NsapAddress::AFI {
-        return false;
-    }
-    if octet(&a, 1) != NsapAddress::NSAP_TYPE {
-        return false;
-    }
-    if octet(&a, 6) != NsapAddress::SPECIFIER_TYPE {
-        return false;
-    }
-    be32(&a, 16) == NsapAddress::RESERVED
+    let afi = octet(&a, 0);
+    let kind = octet(&a, 1);
+    let specifier = octet(&a, 6);
+    let reserved = be32(&a, 16);
+    (afi == NsapAddress::AFI)
+        & ((kind == NsapAddress::NSAP_TYPE)
+            & ((specifier == NsapAddress::SPECIFIER_TYPE) & (reserved == NsapAddress::RESERVED)))
 }

@@ -12,7 +12,8 @@ use borrow.Author.Tests.{leb-true, le-leb, eqb-true, eqb-false}
 use Rattle.reference.specs.declared.View.{View}
 use Rattle.reference.specs.declared.Check.{Check}
 use Rattle.reference.specs.declared.Check.the-variants.{Pass}
-use Rattle.reference.specs.Checks.{each, sum}
+use Rattle.reference.specs.Checks.{each}
+use Rattle.reference.specs.Meaning.{sum}
 use Rattle.reference.specs.Writer.{tapSize, nameSize, extraSize, viewCheck, tapViews, nameViews, extraViews}
 use Rattle.reference.proofs.Checks.{passes, passed, test-le, le-test, each-cons, each-drop}
 use Rattle.table.specs.Flat.{viewFrom, tapOfTable, nameOfTable, extraOfTable}

@@ -3,7 +3,7 @@ use Prim.Native.Nat.{ℕ, _+_, _<_}
 use mathlib.Core.Path.{_≡_, sym, ap, _∙_}
 use mathlib.Core.List.{List}
 use Rattle.reference.specs.declared.TaggedProfile.{TaggedProfile}
-use Rattle.reference.specs.Tables.{tapsIn, namesIn, extrasIn, bodyView}
+use Rattle.reference.specs.Used.{tapsIn, namesIn, extrasIn, bodyView}
 use Rattle.table.specs.Flat.{bodyFrom}
 use Rattle.exact.specs.Exact.{profileExact}
 use Rattle.measuring.specs.ByTable.{fixedSize}

@@ -9,7 +9,7 @@ use lib.ListN.{getD}
 use Rattle.reference.specs.declared.Check.{Check}
 use Rattle.reference.specs.declared.Check.the-variants.{Pass, Refuse}
 use Rattle.reference.specs.Checks.{each}
-use Rattle.reference.specs.Tables.{bodyView}
+use Rattle.reference.specs.Used.{bodyView}
 use Rattle.reference.specs.Writer.{sizeOf, entryViews, viewsCheck, measureCheck}
 use Rattle.reference.proofs.Checks.{passes, passed, test-le, le-test}
 use Rattle.table.specs.Flat.{tablesFrom, viewFrom, bodyOfTable}

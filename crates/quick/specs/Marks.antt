@@ -8,8 +8,8 @@ use lib.ListN.{getD}
 use Rattle.reference.specs.declared.View.{View}
 use Rattle.reference.specs.declared.Check.{Check}
 use Rattle.reference.specs.declared.Check.the-variants.{Pass, Refuse}
-use Rattle.reference.specs.Checks.{sum}
-use Rattle.reference.specs.Tables.{tapsIn, namesIn, extrasIn, bodyView}
+use Rattle.reference.specs.Meaning.{sum}
+use Rattle.reference.specs.Used.{tapsIn, namesIn, extrasIn, bodyView}
 use Rattle.reference.specs.Writer.{tapSize, nameSize, extraSize, counted, measureCheck}
 use Rattle.table.specs.Flat.{viewFrom, bodyFrom, bodyOfTable, tablesFrom}
 use Rattle.exact.specs.Exact.{every, profileExact, profilesExact, tapsExact, exact}

@@ -1,17 +1,14 @@
--- A profile's body by its tag, and what a caller knows of one that was stored, in each arm of its match. Assumes nothing.
+-- What a caller knows of one that was stored, in each arm of its match. Assumes nothing.
 use Prim.Native.Nat.{ℕ, _+_}
 use mathlib.Core.Path.{_≡_, refl, sym, ap, _∙_}
-use mathlib.Core.Logic.{_≢_}
 use mathlib.Core.List.{List, [], _∷_}
 use native.Mathlib.Nat.{add-zero}
-use borrow.Author.Tests.{eq-eqb, ne-eqb}
 use lib.ListN.{length}
 use Rattle.reference.specs.declared.Refusal.{Refusal}
 use Rattle.reference.specs.declared.TaggedProfile.the-variants as Sort
-use Rattle.reference.specs.Meaning.{Profile, biop, lite, opaque}
-use Rattle.reference.specs.Layout.{tag-biop, tag-lite}
-use Rattle.reference.specs.Reader.{Answer, ok, refused, followed, seen, readBiop, readLite}
-use Rattle.reference.specs.Tables.{view}
+use Rattle.reference.specs.Meaning.{Profile, opaque}
+use Rattle.reference.specs.Steps.{Answer, ok, refused, followed, seen}
+use Rattle.reference.specs.Placed.{view}
 use Rattle.reference.proofs.Steps.{seen-ok, seen-no}
 use Rattle.table.specs.declared.Counts.{Counts}
 use Rattle.table.specs.Region.{stored}
@@ -21,21 +18,6 @@ use Rattle.table.proofs.Filed.{filed-opaque}
 use Rattle.components.specs.declared.BodyRead.{BodyRead}
 use Rattle.components.specs.declared.BodyRead.the-variants as Bodies
 use Rattle.components.specs.Told.{Filled, bodyTold, bodyKept, StoresBody}
-use Rattle.reading.specs.Open.{readBody}
-
--- ---- by the tag
-
-pub body-biop : (t : ℕ) (s : List ℕ) → t ≡ tag-biop → readBody t s ≡ seen (λ b. biop b) (readBiop s 0 (length s))
-unfolding readBody
-body-biop t s h = simp (eq-eqb t tag-biop h)
-
-pub body-lite : (t : ℕ) (s : List ℕ) → t ≢ tag-biop → t ≡ tag-lite → readBody t s ≡ seen (λ l. lite l) (readLite s 0 (length s))
-unfolding readBody
-body-lite t s n h = simp (ne-eqb t tag-biop n, eq-eqb t tag-lite h)
-
-pub body-opaque : (t : ℕ) (s : List ℕ) → t ≢ tag-biop → t ≢ tag-lite → readBody t s ≡ ok (opaque t s) (length s)
-unfolding readBody
-body-opaque t s n m = simp (ne-eqb t tag-biop n, ne-eqb t tag-lite m)
 
 -- the same reading, said otherwise
 pub stores-same : {at : ℕ} {t : List ℕ} {i : ℕ} {u : Counts} {x y : Answer Profile} {n : ℕ} {e : List ℕ} {v : BodyRead} → StoresBody at t i u x n e v → y ≡ x → StoresBody at t i u y n e v

@@ -1,6 +1,6 @@
 -- From the profiles in a lent table to the whole reading: what a caller knows of stored profiles, and what the last check makes of them.
 -- Assumes nothing.
-use Prim.Native.Nat.{ℕ, _+_}
+use Prim.Native.Nat.{ℕ}
 use mathlib.Core.Path.{_≡_, refl, sym, ap, _∙_}
 use mathlib.Core.Bool.{Bool}
 use mathlib.Core.List.{List}
@@ -12,10 +12,11 @@ use Rattle.reference.specs.declared.Check.{Check}
 use Rattle.reference.specs.declared.Check.the-variants.{Pass, Refuse}
 use Rattle.reference.specs.declared.Answer.{Answer as Told}
 use Rattle.reference.specs.declared.Answer.the-variants.{Count, Refused}
-use Rattle.reference.specs.Meaning.{Profile, Reference, tapsOf, namesOf, extrasOf, total}
-use Rattle.reference.specs.Reader.{Answer, ok, refused, seen, many, readProfile}
-use Rattle.reference.specs.Tables.{view}
-use Rattle.reference.specs.Writer.{answered}
+use Rattle.reference.specs.Meaning.{Profile, Reference, tapsOf, namesOf, extrasOf, sum}
+use Rattle.reference.specs.Steps.{Answer, ok, refused, seen, many}
+use Rattle.reference.specs.Reader.{readProfile, answered}
+use Rattle.reference.specs.Heads.{Head}
+use Rattle.reference.specs.Placed.{view, profilesAt}
 use Rattle.reference.proofs.Steps.{seen-ok, seen-no}
 use Rattle.table.specs.declared.Counts.{Counts}
 use Rattle.table.specs.Flat.{frontNumbers}
@@ -23,7 +24,7 @@ use Rattle.table.specs.Filed.{profilesFiled, noCounts, referenceFiled}
 use Rattle.components.specs.Told.{Filled}
 use Rattle.reading.specs.declared.ProfilesRead.{ProfilesRead}
 use Rattle.reading.specs.declared.ProfilesRead.the-variants as Ways
-use Rattle.reading.specs.Open.{Head, opening, endCheck, checked, readAs}
+use Rattle.reading.specs.Open.{opening, endCheck, unless, readAs}
 use Rattle.reading.specs.Into.{profilesTold, allFilled, StoresProfiles, openTold, Closes, StoresReference, tableLeft, ReadInto}
 use Rattle.reading.proofs.References.{endOf, reading-unopened, reading-unread, reading-checked, many-length, opening-next}
 
@@ -31,7 +32,7 @@ use Rattle.reading.proofs.References.{endOf, reading-unopened, reading-
 
 module _ {at : ℕ} {t : List ℕ} {x : Answer (List Profile)} {e : List ℕ} {v : ProfilesRead} (h : StoresProfiles at t x e v) where
   pub filed-ok : {u : Counts} {n : ℕ} → v ≡ Ways.Got u n
-      → (l : List Profile) × (x ≡ ok l n) × (e ≡ profilesFiled at t 0 noCounts l) × (u ≡ record { taps = total tapsOf l; names = total namesOf l; extras = total extrasOf l })
+      → (l : List Profile) × (x ≡ ok l n) × (e ≡ profilesFiled at t 0 noCounts l) × (u ≡ record { taps = sum tapsOf l; names = sum namesOf l; extras = sum extrasOf l })
   filed-ok q =
       let (l, p, f) = seen-ok (allFilled at t) x (sym (h .told) ∙ ap (profilesTold e) q) in
       (l, p, ap (λ (y : Filled). y .table) f, ap (λ (y : Filled). y .counts) f)
@@ -41,7 +42,7 @@ module _ {at : ℕ} {t : List ℕ} {x : Answer (List Profile)} {e : List ℕ} {v
 
 -- ---- the whole reading
 
-checked-seen : {A B : Type 0} (c : Check) (a : A) (n : ℕ) (f : A → B) → checked c (f a) n ≡ seen f (checked c a n)
+checked-seen : {A B : Type 0} (c : Check) (a : A) (n : ℕ) (f : A → B) → unless c (f a) n ≡ seen f (unless c a n)
 checked-seen Pass a n f = refl
 checked-seen (Refuse x) a n f = refl
 
@@ -55,17 +56,17 @@ module _ (whole : Bool) (d t : List ℕ) where
 
     -- the front is put over the profiles, if the last check passes
     pub stores-closed : {l : List Profile} {last : ℕ} {t′ e : List ℕ} {v : View} {count : ℕ} {u : Counts} {r : Told} → many (h .count) readProfile d next (length d) ≡ ok l last
-        → t′ ≡ profilesFiled next t 0 noCounts l → u ≡ record { taps = total tapsOf l; names = total namesOf l; extras = total extrasOf l } → v ≡ view 4 (h .typeId) → count ≡ h .count
+        → t′ ≡ profilesFiled next t 0 noCounts l → u ≡ record { taps = sum tapsOf l; names = sum namesOf l; extras = sum extrasOf l } → v ≡ view 4 (h .typeId) → count ≡ h .count
         → Closes (endCheck whole last (length d) count (u .taps) (u .names) (u .extras)) (splice t′ 0 (frontNumbers v count (u .taps) (u .names) (u .extras))) last e r
         → StoresReference (readAs whole d) t e r
     stores-closed {l} {last} {t′} {e} {v} {count} {u} {r} q et eu ev ec c =
         let m : Reference = record { typeId = h .typeId; profiles = l } in
         let n : count ≡ length l = ec ∙ sym (many-length readProfile d (length d) (h .count) next q) in
-        let p : t′ ≡ profilesFiled (length (h .typeId) + 8) t 0 noCounts l = et ∙ ap (λ (k : ℕ). profilesFiled k t 0 noCounts l) (opening-next d o .2) in
+        let p : t′ ≡ profilesFiled (profilesAt m) t 0 noCounts l = et ∙ ap (λ (k : ℕ). profilesFiled k t 0 noCounts l) (opening-next d o .2) in
         record {
           told =
               c .told
-              ∙ (λ j. checked (endCheck whole last (length d) (n j) (eu j .taps) (eu j .names) (eu j .extras)) (splice (p j) 0 (frontNumbers (ev j) (n j) (eu j .taps) (eu j .names) (eu j .extras))) last)
+              ∙ (λ j. unless (endCheck whole last (length d) (n j) (eu j .taps) (eu j .names) (eu j .extras)) (splice (p j) 0 (frontNumbers (ev j) (n j) (eu j .taps) (eu j .names) (eu j .extras))) last)
               ∙ checked-seen (endOf whole (length d) l last) m last (referenceFiled t)
               ∙ sym (ap (seen (referenceFiled t)) (reading-checked whole d o q));
         }

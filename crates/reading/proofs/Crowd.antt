@@ -6,7 +6,7 @@ use lib.ListN.{length, length-append}
 use Rattle.octets.specs.Octets.{joined}
 use Rattle.octets.proofs.Inverse.{length-octets}
 use Rattle.reference.specs.Meaning.{Tap, Name, Extra, Profile, biop, lite, opaque, tapsOf, namesOf, extrasOf}
-use Rattle.reference.specs.Layout.{layoutTap, layoutName, layoutExtra, layoutBinder, layoutService, layoutBiop, layoutLite, dataOf, layoutProfile}
+use Rattle.reference.specs.Layout.{layoutTap, layoutName, layoutNamed, layoutExtra, layoutBinder, layoutService, layoutBiop, layoutLite, dataOf, layoutProfile}
 
 -- parts that are not empty are no more than their octets
 crowd : {A : Type 0} (lay : A → List ℕ) → ((a : A) → 1 ≤ length (lay a)) → (l : List A) → length l ≤ length (joined (map lay l))
@@ -18,7 +18,7 @@ unfolding layoutTap
 taps-crowd l = crowd layoutTap (λ t. simp (length-append, length-octets) (omega arith)) l
 
 names-crowd : (l : List Name) → length l ≤ length (joined (map layoutName l))
-unfolding layoutName
+unfolding layoutNamed
 names-crowd l = crowd layoutName (λ n. simp (length-append, length-octets) (omega arith)) l
 
 extras-crowd : (l : List Extra) → length l ≤ length (joined (map layoutExtra l))

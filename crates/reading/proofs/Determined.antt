@@ -5,8 +5,8 @@ use mathlib.Core.List.{List}
 use Rattle.reference.specs.declared.Reading.{Reading}
 use Rattle.reference.specs.declared.Answer.{Answer as Told}
 use Rattle.reference.specs.Meaning.{Reference}
-use Rattle.reference.specs.Reader.{Answer, readLeading, readWhole}
-use Rattle.reference.specs.Writer.{answered}
+use Rattle.reference.specs.Steps.{Answer}
+use Rattle.reference.specs.Reader.{readLeading, readWhole, answered}
 use Rattle.reading.specs.Into.{ReadInto}
 
 same-into : {x : Answer Reference} {t e e′ : List ℕ} {r r′ : Told} → ReadInto x t e r → ReadInto x t e′ r′ → (r ≡ r′) × (e ≡ e′)

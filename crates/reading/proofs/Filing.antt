@@ -6,9 +6,10 @@ use native.Mathlib.Nat.{add-assoc, add-zero, zero-add, sub-zero}
 use native.Mathlib.Omega.{arith}
 use lib.ListN.{length}
 use Rattle.reference.specs.declared.Refusal.{Refusal}
-use Rattle.reference.specs.Meaning.{Profile, tapsOf, namesOf, extrasOf, total}
+use Rattle.reference.specs.Meaning.{Profile, tapsOf, namesOf, extrasOf, sum}
 use Rattle.reference.specs.Layout.{layoutProfile}
-use Rattle.reference.specs.Reader.{Answer, ok, refused, followed, seen, many, readProfile}
+use Rattle.reference.specs.Steps.{Answer, ok, refused, followed, seen, many}
+use Rattle.reference.specs.Reader.{readProfile}
 use Rattle.table.specs.declared.Counts.{Counts}
 use Rattle.table.specs.Flat.{profileRegion, tapRegion, nameRegion, extraRegion}
 use Rattle.table.specs.Filed.{filed, countsAfter, profileFiled, profilesFiled, noCounts}
@@ -26,7 +27,7 @@ abbrev behindOf : ℕ → List ℕ → ℕ → Counts → List Profile → Fille
 behindOf at t i u l =
     record {
       table = profilesFiled at t i u l;
-      counts = record { taps = u .taps + total tapsOf l; names = u .names + total namesOf l; extras = u .extras + total extrasOf l };
+      counts = record { taps = u .taps + sum tapsOf l; names = u .names + sum namesOf l; extras = u .extras + sum extrasOf l };
     }
 
 behind-none : (at : ℕ) (t : List ℕ) (i : ℕ) (u : Counts) → behindOf at t i u [] ≡ record { table = t; counts = u }
@@ -40,9 +41,9 @@ behind-more at t i u p l {next} s h =
     λ j. record {
       table = e j;
       counts = record {
-        taps = sym (add-assoc (u .taps) (tapsOf p) (total tapsOf l)) j;
-        names = sym (add-assoc (u .names) (namesOf p) (total namesOf l)) j;
-        extras = sym (add-assoc (u .extras) (extrasOf p) (total extrasOf l)) j;
+        taps = sym (add-assoc (u .taps) (tapsOf p) (sum tapsOf l)) j;
+        names = sym (add-assoc (u .names) (namesOf p) (sum namesOf l)) j;
+        extras = sym (add-assoc (u .extras) (extrasOf p) (sum extrasOf l)) j;
       };
     }
 
@@ -50,7 +51,7 @@ all-behind : (at : ℕ) (t : List ℕ) (l : List Profile) → behindOf at t 0 no
 all-behind at t l =
     λ j. record {
       table = profilesFiled at t 0 noCounts l;
-      counts = record { taps = zero-add (total tapsOf l) j; names = zero-add (total namesOf l) j; extras = zero-add (total extrasOf l) j };
+      counts = record { taps = zero-add (sum tapsOf l) j; names = zero-add (sum namesOf l) j; extras = zero-add (sum extrasOf l) j };
     }
 
 module _ (d : List ℕ) (end : ℕ) where

@@ -12,9 +12,13 @@ use Rattle.reference.specs.declared.Refusal.{Refusal}
 use Rattle.reference.specs.declared.Tables.{Tables}
 use Rattle.reference.specs.Meaning.{Reference, Room}
 use Rattle.reference.specs.Layout.{WellFormed, Leads}
-use Rattle.reference.specs.Reader.{Answer, ok, readLeading, readWhole}
-use Rattle.reference.specs.Tables.{Used, contents, tablesOf, tabled, noTables, usedOf}
-use Rattle.reference.specs.Writer.{answered, written, leaves}
+use Rattle.reference.specs.Steps.{Answer, ok}
+use Rattle.reference.specs.Reader.{readLeading, readWhole, answered}
+use Rattle.reference.specs.Used.{Used}
+use Rattle.reference.specs.Contents.{contents}
+use Rattle.reference.specs.Placed.{tablesOf}
+use Rattle.reference.specs.Tabled.{tabled, noTables, usedOf}
+use Rattle.reference.specs.Writer.{written, leaves}
 use Rattle.reference.specs.Promises.{SameUsed, GivesBack, ReadsBack}
 use Rattle.reference.proofs.Accept.{only-accepted, only-whole, whole-leads}
 use Rattle.reference.proofs.Fitting.{used-tabled, sums}

@@ -9,8 +9,8 @@ use Rattle.reference.specs.declared.Reading.{Reading}
 use Rattle.reference.specs.declared.Answer.{Answer as Told}
 use Rattle.reference.specs.Meaning.{Reference, Room}
 use Rattle.reference.specs.Layout.{WellFormed}
-use Rattle.reference.specs.Reader.{Answer, ok, refused, readLeading, readWhole}
-use Rattle.reference.specs.Writer.{answered}
+use Rattle.reference.specs.Steps.{Answer, ok, refused}
+use Rattle.reference.specs.Reader.{readLeading, readWhole, answered}
 use Rattle.reference.proofs.Accept.{only-accepted, only-whole}
 use Rattle.table.specs.Flat.{tablesFrom}
 use Rattle.by_value.proofs.Accepted.{tables-read}

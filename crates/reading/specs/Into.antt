@@ -7,12 +7,12 @@ use lib.ListN.{replicate}
 use Rattle.reference.specs.declared.Answer.{Answer as Told}
 use Rattle.reference.specs.declared.Answer.the-variants.{Count, Refused}
 use Rattle.reference.specs.declared.Check.{Check}
-use Rattle.reference.specs.Meaning.{Profile, Reference, tapsOf, namesOf, extrasOf, total}
-use Rattle.reference.specs.Reader.{Answer, ok, refused, seen}
-use Rattle.reference.specs.Writer.{answered}
+use Rattle.reference.specs.Meaning.{Profile, Reference, tapsOf, namesOf, extrasOf, sum}
+use Rattle.reference.specs.Steps.{Answer, ok, refused, seen}
+use Rattle.reference.specs.Reader.{answered}
 use Rattle.table.specs.Filed.{profilesFiled, noCounts, referenceFiled}
 use Rattle.components.specs.Told.{Filled}
-use Rattle.reading.specs.Open.{checked}
+use Rattle.reading.specs.Open.{unless}
 use Rattle.reading.specs.declared.ProfilesRead.{ProfilesRead}
 use Rattle.reading.specs.declared.ProfilesRead.the-variants as Ways
 
@@ -27,7 +27,7 @@ abbrev pub allFilled : ℕ → List ℕ → List Profile → Filled
 allFilled at t l =
     record {
       table = profilesFiled at t 0 noCounts l;
-      counts = record { taps = total tapsOf l; names = total namesOf l; extras = total extrasOf l };
+      counts = record { taps = sum tapsOf l; names = sum namesOf l; extras = sum extrasOf l };
     }
 
 -- A reading x of profiles, the first of which stands at offset at, was stored into t: that left e, and ended as v.
@@ -41,7 +41,7 @@ openTold e (Count n) = ok e n
 openTold e (Refused x) = refused x
 
 pub record Closes (c : Check) (t : List ℕ) (last : ℕ) (e : List ℕ) (r : Told) : Type 0 where
-  pub told : openTold e r ≡ checked c t last
+  pub told : openTold e r ≡ unless c t last
 
 -- ---- a reference, its table still open where it is refused
 

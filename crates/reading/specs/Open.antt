@@ -1,7 +1,6 @@
--- The reader of a reference, taken apart as the code goes: a profile's header and its body; what stands before the profiles; what is
--- checked behind them. And what the code of these parts tells, in the definition's words. proofs/Headers and proofs/References
--- say that it is the definition's reader. Assumes nothing.
-use Prim.Native.Nat.{ℕ, _-_, _%_}
+-- What the code of a reading tells, in the definition's words: a profile's header; what stands before the profiles; what is checked behind them.
+-- Assumes nothing.
+use Prim.Native.Nat.{ℕ, _+_}
 use mathlib.Core.Bool.{Bool, true, false}
 use mathlib.Core.List.{List}
 use lib.Dec.{ltb, eqb}
@@ -9,44 +8,27 @@ use lib.ListN.{length}
 use Rattle.reference.specs.declared.View.{View}
 use Rattle.reference.specs.declared.Check.{Check}
 use Rattle.reference.specs.declared.Check.the-variants.{Pass, Refuse}
-use Rattle.reference.specs.Meaning.{Profile, biop, lite, opaque, Reference}
-use Rattle.reference.specs.Layout.{tag-biop, tag-lite}
-use Rattle.reference.specs.Reader.{Answer, ok, refused, refusal, Reader, pick, seen, done, need, number, run, check, readBiop, readLite, readLeading, readWhole}
-use Rattle.reference.specs.Tables.{view}
+use Rattle.reference.specs.Meaning.{Reference}
+use Rattle.reference.specs.Places.{place-reference-leftover, place-profiles, place-taps, place-names, place-extras}
+use Rattle.reference.specs.Refusals.{refusal, leftAt}
+use Rattle.reference.specs.Steps.{Answer, ok, refused, pick}
+use Rattle.reference.specs.Reader.{small, readLeading, readWhole}
+use Rattle.reference.specs.Heads.{Header, Head, readHead}
+use Rattle.reference.specs.Placed.{view}
 use Rattle.reading.specs.declared.HeaderRead.{HeaderRead}
 use Rattle.reading.specs.declared.HeaderRead.the-variants as Headers
 use Rattle.reading.specs.declared.HeadRead.{HeadRead}
 use Rattle.reading.specs.declared.HeadRead.the-variants as Heads
 
--- ---- a profile: its header, which tells the tag and where the data ends, and its body
+-- the header of a profile, which stands at pos
+abbrev pub headerTold : ℕ → HeaderRead → Answer Header
+headerTold pos (Headers.Got tag len) = ok (record { tag = tag; size = len }) (pos + 8)
+headerTold pos (Headers.Not x) = refused x
 
-unfoldable pub readHeader : Reader ℕ
-readHeader = need 8 3 (number 4 λ t. number 4 λ n. run n λ s. done t)
+-- ---- what stands before the profiles: the type id, and how many profiles follow; 6 comes first
 
-unfoldable pub readBody : ℕ → List ℕ → Answer Profile
-readBody t s =
-    pick (eqb t tag-biop) (seen (λ b. biop b) (readBiop s 0 (length s)))
-    (pick (eqb t tag-lite) (seen (λ l. lite l) (readLite s 0 (length s))) (ok (opaque t s) (length s)))
-
-abbrev pub headerTold : HeaderRead → Answer ℕ
-headerTold (Headers.Got tag next) = ok tag next
-headerTold (Headers.Not x) = refused x
-
--- ---- what stands before the profiles: the type id, and how many profiles follow
-
-pub record Head : Type 0 where
-  pub typeId : List ℕ
-  pub count : ℕ
-
-unfoldable pub readHead : Reader Head
-readHead =
-    need 8 1
-    (number 4 λ n. check (eqb (n % 4) 0) (refusal 4 33 0 0)
-    (run n λ i. need 4 2 (number 4 λ c. done (record { typeId = i; count = c }))))
-
--- 6 comes first
-unfoldable pub opening : List ℕ → Answer Head
-opening d = pick (ltb 65535 (length d)) (refused (refusal 6 0 (length d) 65535)) (readHead d 0 (length d))
+abbrev pub opening : List ℕ → Answer Head
+opening d = small d (readHead d 0 (length d))
 
 pub record HeadSeen : Type 0 where
   pub typeId : View
@@ -65,17 +47,17 @@ abbrev pub most : ℕ → ℕ → ℕ → Check → Check
 most size place n c = pick (ltb size n) (Refuse (refusal 7 place n size)) c
 
 abbrev pub roomCheck : ℕ → ℕ → ℕ → ℕ → Check
-roomCheck profiles taps names extras = most 8 40 profiles (most 36 41 taps (most 32 42 names (most 32 43 extras Pass)))
+roomCheck profiles taps names extras = most 8 place-profiles profiles (most 36 place-taps taps (most 32 place-names names (most 32 place-extras extras Pass)))
 
 unfoldable pub endCheck : Bool → ℕ → ℕ → ℕ → ℕ → ℕ → ℕ → Check
 endCheck true next end profiles taps names extras =
-    pick (eqb next end) (roomCheck profiles taps names extras) (Refuse (refusal 1 4 (end - next) 0))
+    pick (eqb next end) (roomCheck profiles taps names extras) (Refuse (leftAt place-reference-leftover next end))
 endCheck false next end profiles taps names extras = roomCheck profiles taps names extras
 
--- the answer, if the check passes
-abbrev pub checked : {A : Type 0} → Check → A → ℕ → Answer A
-checked Pass a n = ok a n
-checked (Refuse x) a n = refused x
+-- the answer, unless the check refuses
+abbrev pub unless : {A : Type 0} → Check → A → ℕ → Answer A
+unless Pass a n = ok a n
+unless (Refuse x) a n = refused x
 
 -- ---- the two readings in one
 

@@ -4,11 +4,12 @@ ghost use mathlib.Core.Path.{_≡_};
 ghost use Prim.Native.Nat.{_+_, _≤_};
 ghost use lib.ListN.{length};
 ghost use Rattle.octets.specs.Octets.{splice};
-ghost use Rattle.reference.specs.Reader.{seen, many, readProfile, readLeading, readWhole};
-ghost use Rattle.reference.specs.Writer.{answered};
+ghost use Rattle.reference.specs.Steps.{seen, many};
+ghost use Rattle.reference.specs.Reader.{readBody, readProfile, readLeading, readWhole, answered};
+ghost use Rattle.reference.specs.Heads.{readHeader};
 ghost use Rattle.table.specs.Flat.{frontNumbers};
 ghost use Rattle.components.specs.Told.{StoresBody};
-ghost use Rattle.reading.specs.Open.{readHeader, headerTold, opening, headSeen, headTold, roomCheck, endCheck, readBody, readAs};
+ghost use Rattle.reading.specs.Open.{headerTold, opening, headSeen, headTold, roomCheck, endCheck, readAs};
 ghost use Rattle.reading.specs.Into.{StoresProfiles, Closes, StoresReference, ReadInto};
 use biop::read_biop;
 use by_value::tables_of;
@@ -20,6 +21,15 @@ use reference::Check;
 use reference::EXTRAS;
 use reference::MOST;
 use reference::NAMES;
+use reference::PLACE_EXTRAS;
+use reference::PLACE_NAMES;
+use reference::PLACE_PROFILE_COUNT;
+use reference::PLACE_PROFILE_HEADER;
+use reference::PLACE_PROFILES;
+use reference::PLACE_REFERENCE_FIXED;
+use reference::PLACE_REFERENCE_LEFTOVER;
+use reference::PLACE_TAPS;
+use reference::PLACE_TYPE_ID_LENGTH;
 use reference::PROFILES;
 use reference::Reading;
 use reference::Refusal;
@@ -39,34 +49,31 @@ use table::clear;
 use table::put_front;
 use table::put_opaque;
 
-// The header of a profile: its tag, and where its data ends; the data begins eight octets behind `pos`.
+// The header of a profile: its tag, and how many octets of data follow it.
 enum HeaderRead {
-    Got { tag: u32, next: usize },
+    Got { tag: u32, len: usize },
     Not { why: Refusal },
 }
 
 fn read_header(d: &[u8], pos: usize) -> HeaderRead
     requires { ⌜ (pos ≤ length (now d)) × (length (now d) ≤ 65535) ⌝ }
-    ensures { λ r. ⌜ headerTold r ≡ readHeader (now (d .entry)) pos (length (now (d .entry))) ⌝ }
+    ensures { λ r. ⌜ headerTold pos r ≡ readHeader (now (d .entry)) pos (length (now (d .entry))) ⌝ }
 {
     let end = d.len();
     let data = pos + 8;
     if end < data {
         return HeaderRead::Not {
-            why: cut(3, data, end),
+            why: cut(PLACE_PROFILE_HEADER, pos, 8, end),
         };
     }
     let tag = be32(d, pos);
     let len = be32(d, pos + 4) as usize;
     if end - data < len {
         return HeaderRead::Not {
-            why: too_long(len, end - data),
+            why: too_long(data, len, end),
         };
     }
-    HeaderRead::Got {
-        tag,
-        next: data + len,
-    }
+    HeaderRead::Got { tag, len }
 }
 
 // What stands before the profiles: the type id, how many profiles follow and where the first one stands.
@@ -92,23 +99,25 @@ fn read_head(d: &[u8]) -> HeadRead
     }
     if end < 8 {
         return HeadRead::Not {
-            why: cut(1, 8, end),
+            why: cut(PLACE_REFERENCE_FIXED, 0, 8, end),
         };
     }
     let len = be32(d, 0) as usize;
     if len % 4 != 0 {
-        return HeadRead::Not { why: wrong(4, 33) };
+        return HeadRead::Not {
+            why: wrong(4, PLACE_TYPE_ID_LENGTH),
+        };
     }
     if end - 4 < len {
         return HeadRead::Not {
-            why: too_long(len, end - 4),
+            why: too_long(4, len, end),
         };
     }
     let pos = 4 + len;
     let first = pos + 4;
     if end < first {
         return HeadRead::Not {
-            why: cut(2, first, end),
+            why: cut(PLACE_PROFILE_COUNT, pos, 4, end),
         };
     }
     HeadRead::Got {
@@ -123,16 +132,16 @@ fn check_room(profiles: usize, taps: usize, names: usize, extras: usize) -> Chec
     ensures { λ r. ⌜ r ≡ roomCheck profiles taps names extras ⌝ }
 {
     if PROFILES < profiles {
-        return Check::Refuse(too_many(40, profiles, PROFILES));
+        return Check::Refuse(too_many(PLACE_PROFILES, profiles, PROFILES));
     }
     if TAPS < taps {
-        return Check::Refuse(too_many(41, taps, TAPS));
+        return Check::Refuse(too_many(PLACE_TAPS, taps, TAPS));
     }
     if NAMES < names {
-        return Check::Refuse(too_many(42, names, NAMES));
+        return Check::Refuse(too_many(PLACE_NAMES, names, NAMES));
     }
     if EXTRAS < extras {
-        return Check::Refuse(too_many(43, extras, EXTRAS));
+        return Check::Refuse(too_many(PLACE_EXTRAS, extras, EXTRAS));
     }
     Check::Pass
 }
@@ -151,7 +160,7 @@ fn check_end(
     ensures { λ r. ⌜ r ≡ endCheck whole next end profiles taps names extras ⌝ }
 {
     if whole && next != end {
-        return Check::Refuse(left_over(4, end - next));
+        return Check::Refuse(left_over(PLACE_REFERENCE_LEFTOVER, next, end));
     }
     check_room(profiles, taps, names, extras)
 }
@@ -159,7 +168,7 @@ fn check_end(
 // The data of a profile whose header stands at `at`: it becomes profile i of the table, if there is room.
 fn read_body(d: &[u8], at: usize, tag: u32, table: &mut [u32], i: usize, used: Counts) -> BodyRead
     requires { ⌜ (at + 8 + length (now d) ≤ 65535) × (used .taps ≤ 65535) × (used .names ≤ 65535) × (used .extras ≤ 65535) × (length (now table) ≡ 490) ⌝ }
-    ensures { λ r. ⌜ StoresBody at (now (table .entry)) i used (readBody tag (now (d .entry))) (length (now (d .entry))) (now (table .exit)) r ⌝ }
+    ensures { λ r. ⌜ StoresBody at (now (table .entry)) i used (readBody tag (now (d .entry)) 0 (length (now (d .entry)))) (length (now (d .entry))) (now (table .exit)) r ⌝ }
 {
     if tag == TAG_BIOP {
         return read_biop(d, at, table, i, used);
@@ -195,8 +204,9 @@ fn read_profiles(d: &[u8], pos: usize, n: usize, table: &mut [u32]) -> ProfilesR
             HeaderRead::Not { why } => {
                 return ProfilesRead::Not { why };
             }
-            HeaderRead::Got { tag, next } => {
+            HeaderRead::Got { tag, len } => {
                 let data = cur + 8;
+                let next = data + len;
                 match read_body(&d[data..next], cur, tag, table, i, used) {
                     BodyRead::Not { why: wrong } => {
                         return ProfilesRead::Not { why: wrong };

@@ -9,7 +9,7 @@ use borrow.Author.Tests.{le-leb, lt-leb, lt-ltb, le-ltb, eq-eqb, ne-eqb, ltb-fal
 use lib.Dec.{leb, ltb, eqb}
 use lib.ListN.{length}
 use Rattle.octets.specs.Octets.{part, be}
-use Rattle.reference.specs.Reader.{pick}
+use Rattle.reference.specs.Steps.{pick}
 use Rattle.records.specs.declared.Record.{Record}
 use Rattle.records.specs.declared.Record.the-variants.{Got, Broken, End}
 use Rattle.records.specs.Records.{mark, recordAt, announced}

@@ -5,7 +5,7 @@ use mathlib.Core.List.{List, _∷_, _++_}
 use lib.Dec.{ltb, leb, eqb}
 use lib.ListN.{length}
 use Rattle.octets.specs.Octets.{part, be, octets}
-use Rattle.reference.specs.Reader.{pick}
+use Rattle.reference.specs.Steps.{pick}
 use Rattle.records.specs.declared.Record.{Record}
 use Rattle.records.specs.declared.Record.the-variants.{Got, Broken, End}
 

@@ -1,7 +1,7 @@
 -- A reader is right: it answers `ok a next` exactly where the layout of a good `a` stands. The laws by which readers are put together.
 -- Assumes nothing.
 use Prim.Native.Nat.{ℕ, zero, suc, _+_, _-_, _^_, _<_, _≤_}
-use mathlib.Core.Path.{_≡_, refl, sym, ap, ap₂, _∙_, subst, subst⁻¹}
+use mathlib.Core.Path.{_≡_, refl, sym, ap, ap₂, _∙_, subst}
 use mathlib.Core.Bool.{Bool, true, false, not}
 use mathlib.Core.List.{List, [], _∷_, _++_, append-assoc, append-nil, map}
 use native.Mathlib.Nat.{suc-inj}
@@ -11,7 +11,8 @@ use lib.Seq.{drop-drop, drop-at, take-at}
 use lib.Dec.{T, ltb, leb, eqb, leb→le, le→leb, ltb→lt, nltb→le, not-T, eqb→eq, eqb-refl, nleb→lt}
 use Rattle.octets.specs.Octets.{Each, Octets, part, be, octets, joined}
 use Rattle.reference.specs.declared.Refusal.{Refusal}
-use Rattle.reference.specs.Reader.{Answer, ok, refused, Reader, refusal, pick, done, need, number, run, check, choose, ending, within, inside, many, after, followed}
+use Rattle.reference.specs.Steps.{Answer, ok, refused, Reader, pick, outward, done, need, number, run, rest, checked, choose, ending, within, fits, apart, many, after, followed}
+use Rattle.reference.specs.Refusals.{cutAt, leftAt, longAt, wrongAt}
 use Rattle.octets.proofs.Part.{part-at, length-part, octets-part, part-cut}
 use Rattle.octets.proofs.Inverse.{length-octets, be-lt, be-octets, octets-be}
 
@@ -96,7 +97,7 @@ pub not-ltb : (m n : ℕ) → n ≤ m → T (not (ltb m n))
 not-ltb m n h = not-T (ltb m n) (λ t. omega (arith, ltb→lt m n t))
 
 module _ {A : Type 0} where
-  refused-ok : {x : Refusal} {a : A} {next : ℕ} → refused x ≡ ok a next → ⊥
+  pub refused-ok : {x : Refusal} {a : A} {next : ℕ} → refused x ≡ ok a next → ⊥
   refused-ok e = let z : _≡_ {A = ℕ} 0 1 = cc in omega arith
 
   pub guard-ok : (b : Bool) (x : Refusal) (y : Answer A) {a : A} {next : ℕ} → pick b (refused x) y ≡ ok a next → (T (not b)) × (y ≡ ok a next)
@@ -136,14 +137,14 @@ module _ {A : Type 0} {good : A → Type 0} {lay : A → List ℕ} where
   reads-need {r} k place h =
       record {
         sound = λ d pos end c a next e.
-            let g = guard-ok (ltb end (pos + k)) (refusal 1 place (pos + k) end) (r d pos end) e in
+            let g = guard-ok (ltb end (pos + k)) (cutAt place pos k end) (r d pos end) e in
             h .sound d pos end (move pos k c (nltb→le end (pos + k) (g .0))) a next (g .1);
         complete = λ d pos end c a next f g.
             let l : pos + k ≤ end = omega (arith, h .least a g, f .span, f .room) in
-            guard-pass (ltb end (pos + k)) (refused (refusal 1 place (pos + k) end)) (r d pos end) (not-ltb end (pos + k) l)
+            guard-pass (ltb end (pos + k)) (refused (cutAt place pos k end)) (r d pos end) (not-ltb end (pos + k) l)
             ∙ h .complete d pos end (move pos k c l) a next f g;
         short = λ d pos end c a s g.
-            guard-short (ltb end (pos + k)) (refusal 1 place (pos + k) end) (r d pos end) (omega arith)
+            guard-short (ltb end (pos + k)) (cutAt place pos k end) (r d pos end) (omega arith)
             (λ t. h .short d pos end (move pos k c (nltb→le end (pos + k) t)) a s g);
         least = λ a g. omega arith;
       }
@@ -192,7 +193,7 @@ module _ {A : Type 0} {good : A → Type 0} {lay : A → List ℕ} where
       record {
         sound = λ d pos end c a next e.
             let p = part d pos n in
-            let g = guard-ok (ltb (end - pos) n) (refusal 2 0 n (end - pos)) (f p d (pos + n) end) e in
+            let g = guard-ok (ltb (end - pos) n) (longAt pos n end) (f p d (pos + n) end) e in
             let le : n ≤ end - pos = nltb→le (end - pos) n (g .0) in
             let np : length p ≡ n = length-part d pos n (omega (arith, c .fits, c .room)) in
             let ih = h p np (octets-part d pos n (c .octs)) .sound d (pos + n) end (move (pos + n) 0 c (omega (arith, c .room))) a next (g .1) in
@@ -201,11 +202,11 @@ module _ {A : Type 0} {good : A → Type 0} {lay : A → List ℕ} where
             let q : part d pos n ≡ get a = found-part (get a) (lay a) n (long a g) s in
             let s′ : Found d (pos + n) end (lay a) next = rw (long a g) at (found-rest (get a) (lay a) s) in
             let le : n ≤ end - pos = omega (arith, s′ .span, s′ .room) in
-            guard-pass (ltb (end - pos) n) (refused (refusal 2 0 n (end - pos))) (f (part d pos n) d (pos + n) end) (not-ltb (end - pos) n le)
+            guard-pass (ltb (end - pos) n) (refused (longAt pos n end)) (f (part d pos n) d (pos + n) end) (not-ltb (end - pos) n le)
             ∙ ap (λ (v : List ℕ). f v d (pos + n) end) q
             ∙ h (get a) (long a g) (octs a g) .complete d (pos + n) end (move (pos + n) 0 c (omega (arith, s′ .span, s′ .room))) a next s′ (g, refl);
         short = λ d pos end c a s g.
-            guard-short (ltb (end - pos) n) (refusal 2 0 n (end - pos)) (f (part d pos n) d (pos + n) end) (omega arith) λ t.
+            guard-short (ltb (end - pos) n) (longAt pos n end) (f (part d pos n) d (pos + n) end) (omega arith) λ t.
             let le : n ≤ end - pos = nltb→le (end - pos) n t in
             let fit : pos + n ≤ end = omega (arith, c .room) in
             subst (λ (v : List ℕ). Short (f v d (pos + n) end)) (sym (cut-part (get a) (lay a) n (long a g) s fit))
@@ -213,33 +214,48 @@ module _ {A : Type 0} {good : A → Type 0} {lay : A → List ℕ} where
         least = λ a g. omega arith;
       }
 
-  pub reads-check : {m : ℕ} {r : Reader A} (b : Bool) (x : Refusal) → ((a : A) → good a → T b) → (T b → Reads m r lay good) → Reads m (check b x r) lay good
-  unfolding check
-  reads-check {m} {r} true x t h = record { sound = h tt .sound; complete = h tt .complete; short = h tt .short; least = h tt .least }
-  reads-check {m} {r} false x t h =
-      record {
-        sound = λ d pos end c a next e. absurd (refused-ok e);
-        complete = λ d pos end c a next s g. absurd (t a g);
-        short = λ d pos end c a s g. absurd (t a g);
-        least = λ a g. absurd (t a g);
-      }
+-- r, if b holds
+abbrev guarded : {A : Type 0} → Bool → Refusal → Reader A → Reader A
+guarded b x r d pos end = pick b (r d pos end) (refused x)
 
-  pub reads-equal : {m : ℕ} {r : Reader A} (v k : ℕ) (x : Refusal) → ((a : A) → good a → k ≡ v) → (v ≡ k → Reads m r lay good) → Reads m (check (eqb v k) x r) lay good
-  reads-equal v k x t h = reads-check (eqb v k) x (λ a g. rw (t a g) (eqb-refl v)) (λ e. h (eqb→eq v k e))
+reads-guarded : {A : Type 0} {good : A → Type 0} {lay : A → List ℕ} {m : ℕ} {r : Reader A} (b : Bool) (x : Refusal) → ((a : A) → good a → T b) → (T b → Reads m r lay good) → Reads m (guarded b x r) lay good
+reads-guarded true x t h = record { sound = h tt .sound; complete = h tt .complete; short = h tt .short; least = h tt .least }
+reads-guarded false x t h =
+    record {
+      sound = λ d pos end c a next e. absurd (refused-ok e);
+      complete = λ d pos end c a next s g. absurd (t a g);
+      short = λ d pos end c a s g. absurd (t a g);
+      least = λ a g. absurd (t a g);
+    }
 
-  pub reads-atleast : {m : ℕ} {r : Reader A} (k v : ℕ) (x : Refusal) → ((a : A) → good a → k ≤ v) → (k ≤ v → Reads m r lay good) → Reads m (check (leb k v) x r) lay good
-  reads-atleast k v x t h = reads-check (leb k v) x (λ a g. le→leb k v (t a g)) (λ e. h (leb→le k v e))
+module _ {A : Type 0} {good : A → Type 0} {lay : A → List ℕ} where
+  -- a number that must pass the test
+  pub reads-checked : {m : ℕ} {f : ℕ → Reader A} (w : ℕ) (test : ℕ → Bool) (n place : ℕ) (get : A → ℕ) → T (leb w m) → ((a : A) → good a → get a < 256 ^ w) → ((a : A) → good a → T (test (get a)))
+      → ((v : ℕ) → v < 256 ^ w → T (test v) → Reads (m - w) (f v) lay (λ a. (good a) × (get a ≡ v))) → Reads m (checked w test n place f) (λ a. octets w (get a) ++ lay a) good
+  unfolding checked number
+  reads-checked {m} {f} w test n place get t small pass h =
+      let it : Reads m (number w (λ v. guarded (test v) (wrongAt n place) (f v))) (λ a. octets w (get a) ++ lay a) good =
+      reads-number w get t small λ v hv. reads-guarded (test v) (wrongAt n place) (λ a g. subst (λ (x : ℕ). T (test x)) (g .1) (pass a (g .0))) (h v hv) in
+      record { sound = it .sound; complete = it .complete; short = it .short; least = it .least }
 
-  pub reads-choose : {m : ℕ} {r s : Reader A} (b : Bool) → (T b → Reads m r lay good) → (T (not b) → Reads m s lay good) → Reads m (choose b r s) lay good
-  unfolding choose
-  reads-choose true h k = record { sound = h tt .sound; complete = h tt .complete; short = h tt .short; least = h tt .least }
-  reads-choose false h k = record { sound = k tt .sound; complete = k tt .complete; short = k tt .short; least = k tt .least }
+  -- one that must be k, and one that must be k at least
+  pub reads-equal : {m : ℕ} {f : ℕ → Reader A} (w k n place : ℕ) → T (leb w m) → k < 256 ^ w
+      → ((v : ℕ) → v ≡ k → Reads (m - w) (f v) lay (λ a. (good a) × (k ≡ v))) → Reads m (checked w (λ v. eqb v k) n place f) (λ a. octets w k ++ lay a) good
+  reads-equal w k n place t small h = reads-checked w (λ v. eqb v k) n place (λ a. k) t (λ a g. small) (λ a g. eqb-refl k) λ v hv e. h v (eqb→eq v k e)
+
+  pub reads-atleast : {m : ℕ} {f : ℕ → Reader A} (w k n place : ℕ) (get : A → ℕ) → T (leb w m) → ((a : A) → good a → get a < 256 ^ w) → ((a : A) → good a → k ≤ get a)
+      → ((v : ℕ) → v < 256 ^ w → k ≤ v → Reads (m - w) (f v) lay (λ a. (good a) × (get a ≡ v))) → Reads m (checked w (leb k) n place f) (λ a. octets w (get a) ++ lay a) good
+  reads-atleast w k n place get t small least h = reads-checked w (leb k) n place get t small (λ a g. le→leb k (get a) (least a g)) λ v hv e. h v hv (leb→le k v e)
 
 -- ---- readers one after the other, and one inside another
 
 pub followed-ok : {A B : Type 0} (x : Answer B) (f : B → ℕ → Answer A) {a : A} {next : ℕ} → followed x f ≡ ok a next → (b : B) × (mid : ℕ) × (x ≡ ok b mid) × (f b mid ≡ ok a next)
 followed-ok (ok b mid) f e = (b, mid, refl, e)
 followed-ok (refused x) f e = absurd (refused-ok e)
+
+outward-ok : {A : Type 0} (pos n : ℕ) (x : Answer A) {a : A} {next : ℕ} → outward pos n x ≡ ok a next → (b : A) × (mid : ℕ) × (x ≡ ok b mid) × (b ≡ a) × (pos + n ≡ next)
+outward-ok pos n (ok b mid) e = (b, mid, refl, cc, cc)
+outward-ok pos n (refused x) e = absurd (refused-ok e)
 
 pub followed-short : {A B : Type 0} (x : Answer B) (f : B → ℕ → Answer A) → Short x → Short (followed x f)
 followed-short (ok b mid) f h = absurd h
@@ -271,8 +287,8 @@ module _ {A : Type 0} {good : A → Type 0} {lay : A → List ℕ} {r : Reader A
   fills-ending place h =
       record {
         sound = λ d pos end c a next e.
-            let (b, mid, p, q) = followed-ok (r d pos end) (λ b next. pick (eqb next end) (ok b next) (refused (refusal 1 place (end - next) 0))) e in
-            let w = pass-ok (eqb mid end) (ok b mid) (refusal 1 place (end - mid) 0) q in
+            let (b, mid, p, q) = followed-ok (r d pos end) (λ b next. pick (eqb next end) (ok b next) (refused (leftAt place next end))) e in
+            let w = pass-ok (eqb mid end) (ok b mid) (leftAt place mid end) q in
             let z = w .1 in
             let eb : b ≡ a = cc in
             let em : mid ≡ next = cc in
@@ -280,8 +296,8 @@ module _ {A : Type 0} {good : A → Type 0} {lay : A → List ℕ} {r : Reader A
             let s = h .sound d pos end c b mid p in
             (subst (λ (x : ℕ). Found d pos end (lay a) x) ee (subst (λ (x : A). Found d pos end (lay x) mid) eb (s .0)), omega arith, subst good eb (s .1));
         complete = λ d pos end c a s g.
-            ap (λ (x : Answer A). followed x (λ b next. pick (eqb next end) (ok b next) (refused (refusal 1 place (end - next) 0)))) (h .complete d pos end c a end s g)
-            ∙ pass-pass (eqb end end) (ok a end) (refused (refusal 1 place (end - end) 0)) (eqb-refl end);
+            ap (λ (x : Answer A). followed x (λ b next. pick (eqb next end) (ok b next) (refused (leftAt place next end)))) (h .complete d pos end c a end s g)
+            ∙ pass-pass (eqb end end) (ok a end) (refused (leftAt place end end)) (eqb-refl end);
       }
 
   pub reads-within : (n : ℕ) → Fills r lay good → Reads 0 (within n r) lay (λ a. (good a) × (length (lay a) ≡ n))
@@ -289,7 +305,7 @@ module _ {A : Type 0} {good : A → Type 0} {lay : A → List ℕ} {r : Reader A
   reads-within n h =
       record {
         sound = λ d pos end c a next e.
-            let g = guard-ok (ltb (end - pos) n) (refusal 2 0 n (end - pos)) (r d pos (pos + n)) e in
+            let g = guard-ok (ltb (end - pos) n) (longAt pos n end) (r d pos (pos + n)) e in
             let le : n ≤ end - pos = nltb→le (end - pos) n (g .0) in
             let s = h .sound d pos (pos + n) (record { octs = c .octs; fits = omega (arith, c .fits, c .room); room = omega arith }) a next (g .1) in
             let f = s .0 in
@@ -298,28 +314,25 @@ module _ {A : Type 0} {good : A → Type 0} {lay : A → List ℕ} {r : Reader A
         complete = λ d pos end c a next f g.
             let en : next ≡ pos + n = omega (arith, f .span, g .1) in
             let le : n ≤ end - pos = omega (arith, f .room) in
-            guard-pass (ltb (end - pos) n) (refused (refusal 2 0 n (end - pos))) (r d pos (pos + n)) (not-ltb (end - pos) n le)
+            guard-pass (ltb (end - pos) n) (refused (longAt pos n end)) (r d pos (pos + n)) (not-ltb (end - pos) n le)
             ∙ rw en
             (h .complete d pos (pos + n) (record { octs = c .octs; fits = omega (arith, c .fits, c .room, f .room); room = omega arith }) a
             (record { span = omega (arith, g .1); here = rw en at (f .here); room = omega arith }) (g .0));
         short = λ d pos end c a s g.
-            guard-short (ltb (end - pos) n) (refusal 2 0 n (end - pos)) (r d pos (pos + n)) (omega arith) λ t.
+            guard-short (ltb (end - pos) n) (longAt pos n end) (r d pos (pos + n)) (omega arith) λ t.
             absurd (omega (arith, nltb→le (end - pos) n t, s .found .span, s .past, g .1, c .room));
         least = λ a g. omega arith;
       }
 
-  pub reads-inside : (n : ℕ) → Fills r lay good → Reads 0 (inside n r) lay (λ a. (good a) × (length (lay a) ≡ n))
-  unfolding inside
+  pub reads-inside : (n : ℕ) → Fills r lay good → Reads 0 (fits n (apart n r)) lay (λ a. (good a) × (length (lay a) ≡ n))
+  unfolding fits apart
   reads-inside n h =
       record {
         sound = λ d pos end c a next e.
-            let k : A → ℕ → Answer A = λ b last. ok b (pos + n) in
-            let g = guard-ok (ltb (end - pos) n) (refusal 2 0 n (end - pos)) (followed (r (part d pos n) 0 n) k) e in
+            let g = guard-ok (ltb (end - pos) n) (longAt pos n end) (outward pos n (r (part d pos n) 0 n)) e in
             let le : n ≤ end - pos = nltb→le (end - pos) n (g .0) in
             let np : length (part d pos n) ≡ n = length-part d pos n (omega (arith, c .fits, c .room)) in
-            let (b, mid, p, q) = followed-ok (r (part d pos n) 0 n) k (g .1) in
-            let eb : b ≡ a = cc in
-            let en : pos + n ≡ next = cc in
+            let (b, mid, p, eb, en) = outward-ok pos n (r (part d pos n) 0 n) (g .1) in
             let s = h .sound (part d pos n) 0 n (record { octs = octets-part d pos n (c .octs); fits = omega arith; room = omega arith }) b mid p in
             let f = s .0 in
             let el : part d pos n ≡ lay b = f .here ∙ ap (λ (x : List ℕ). lay b ++ x) (drop-of-length-le (part d pos n) {i = n} (omega arith)) ∙ append-nil (lay b) in (
@@ -327,19 +340,18 @@ module _ {A : Type 0} {good : A → Type 0} {lay : A → List ℕ} {r : Reader A
               (subst good eb (s .2), omega (arith, f .span, ap (λ (x : A). length (lay x)) eb)),
             );
         complete = λ d pos end c a next f g.
-            let k : A → ℕ → Answer A = λ b last. ok b (pos + n) in
             let en : next ≡ pos + n = omega (arith, f .span, g .1) in
             let le : n ≤ end - pos = omega (arith, f .room) in
             let el : part d pos n ≡ lay a = found-whole (lay a) n (g .1) f in
             let np : length (part d pos n) ≡ n = ap length el ∙ g .1 in
-            guard-pass (ltb (end - pos) n) (refused (refusal 2 0 n (end - pos))) (followed (r (part d pos n) 0 n) k) (not-ltb (end - pos) n le)
-            ∙ ap (λ (x : Answer A). followed x k)
+            guard-pass (ltb (end - pos) n) (refused (longAt pos n end)) (outward pos n (r (part d pos n) 0 n)) (not-ltb (end - pos) n le)
+            ∙ ap (outward pos n)
             (h .complete (part d pos n) 0 n (record { octs = octets-part d pos n (c .octs); fits = omega arith; room = omega arith }) a
             (record { span = omega (arith, g .1); here = el ∙ sym (append-nil (lay a)) ∙ ap (λ (x : List ℕ). lay a ++ x) (sym (drop-of-length-le (part d pos n) {i = n} (omega arith))); room = omega arith })
             (g .0))
             ∙ rw en;
         short = λ d pos end c a s g.
-            guard-short (ltb (end - pos) n) (refusal 2 0 n (end - pos)) (followed (r (part d pos n) 0 n) (λ b last. ok b (pos + n))) (omega arith) λ t.
+            guard-short (ltb (end - pos) n) (longAt pos n end) (outward pos n (r (part d pos n) 0 n)) (omega arith) λ t.
             absurd (omega (arith, nltb→le (end - pos) n t, s .found .span, s .past, g .1, c .room));
         least = λ a g. omega arith;
       }
@@ -381,29 +393,104 @@ module _ {A B : Type 0} {good : A → Type 0} {lay : A → List ℕ} {good′ : 
         least = λ a g. omega arith;
       }
 
-  -- the same by a constructor
-  pub reads-as : (into : B → A) → Reads 0 r lay′ good′ → ((b : B) → good′ b → good (into b)) → ((b : B) → lay (into b) ≡ lay′ b)
-      → ((a : A) → good a → (b : B) × (a ≡ into b) × (good′ b)) → Reads 0 (after r (λ b. done (into b))) lay good
+-- ---- one after the other, up to the end
+
+module _ {A B : Type 0} {good : A → Type 0} {lay : A → List ℕ} {good′ : B → Type 0} {lay′ : B → List ℕ} {r : Reader B} where
+  -- what follows reaches the end
+  pub fills-after : {f : B → Reader A} (get : A → B) → Reads 0 r lay′ good′ → ((a : A) → good a → good′ (get a))
+      → ((b : B) → good′ b → Fills (f b) lay (λ a. (good a) × (get a ≡ b))) → Fills (after r f) (λ a. lay′ (get a) ++ lay a) good
+  unfolding after
+  fills-after {f} get h sub k =
+      record {
+        sound = λ d pos end c a next e.
+            let (b, mid, p, q) = followed-ok (r d pos end) (λ b mid. f b d mid end) e in
+            let s = h .sound d pos end c b mid p in
+            let t = k b (s .1) .sound d mid end (move mid 0 c (omega (arith, s .0 .room))) a next q in
+            let eb : get a ≡ b = t .2 .1 in
+            (rw eb (found-join (lay′ b) (lay a) (s .0 .span) (s .0 .here) (t .0)), t .1, t .2 .0);
+        complete = λ d pos end c a s g.
+            let l = lay′ (get a) in
+            let mid = pos + length l in
+            let s′ = found-rest l (lay a) s in
+            let room : mid ≤ end = omega (arith, s′ .span, s′ .room) in
+            let e = h .complete d pos end c (get a) mid (record { span = refl; here = found-first l (lay a) s; room = room }) (sub a g) in
+            ap (λ (x : Answer B). followed x (λ b mid. f b d mid end)) e
+            ∙ k (get a) (sub a g) .complete d mid end (move mid 0 c (omega arith)) a s′ (g, refl);
+      }
+
+  -- what is made of a part that reaches the end
+  pub fills-as : (into : B → A) → Fills r lay′ good′ → ((b : B) → good′ b → good (into b)) → ((b : B) → good′ b → lay (into b) ≡ lay′ b)
+      → ((a : A) → good a → (b : B) × (a ≡ into b) × (good′ b)) → Fills (after r (λ b. done (into b))) lay good
   unfolding after done
-  reads-as into h up same down =
+  fills-as into h up same down =
       record {
         sound = λ d pos end c a next e.
             let (b, mid, p, q) = followed-ok (r d pos end) (λ b mid. ok (into b) mid) e in
             let ea : into b ≡ a = cc in
             let en : mid ≡ next = cc in
             let s = h .sound d pos end c b mid p in
-            (subst (λ (x : A). Found d pos end (lay x) next) ea (subst (λ (x : ℕ). Found d pos end (lay (into b)) x) en (subst⁻¹ (λ (x : List ℕ). Found d pos end x mid) (same b) (s .0))), subst good ea (up b (s .1)));
-        complete = λ d pos end c a next s g.
+            let el : lay′ b ≡ lay a = sym (same b (s .2)) ∙ ap lay ea in
+            (subst (λ (x : List ℕ). Found d pos end x end) el (s .0), omega (arith, s .1), subst good ea (up b (s .2)));
+        complete = λ d pos end c a f g.
             let (b, e, g′) = down a g in
-            let el : lay a ≡ lay′ b = ap lay e ∙ same b in
-            ap (λ (x : Answer B). followed x (λ b mid. ok (into b) mid)) (h .complete d pos end c b next (rw el at s) g′)
-            ∙ ap (λ (x : A). ok x next) (sym e);
-        short = λ d pos end c a s g.
-            let (b, e, g′) = down a g in
-            let el : lay a ≡ lay′ b = ap lay e ∙ same b in
-            followed-short (r d pos end) (λ b mid. ok (into b) mid) (h .short d pos end c b (rw el at s) g′);
-        least = λ a g. omega arith;
+            let el : lay a ≡ lay′ b = ap lay e ∙ same b g′ in
+            ap (λ (x : Answer B). followed x (λ b mid. ok (into b) mid)) (h .complete d pos end c b (subst (λ (x : List ℕ). Found d pos end x end) el f) g′)
+            ∙ ap (λ (x : A). ok x end) (sym e);
       }
+
+-- the last of the fields reaches the end
+pub fills-last : {A B : Type 0} {good : A → Type 0} {good′ : B → Type 0} {lay′ : B → List ℕ} {r : Reader B} (make : B → A) (get : A → B) → Fills r lay′ good′
+    → ((a : A) → good a → good′ (get a)) → ((b : B) → good′ b → (good (make b)) × (get (make b) ≡ b)) → ((a : A) → good a → a ≡ make (get a))
+    → Fills (after r (λ b. done (make b))) (λ a. lay′ (get a) ++ []) good
+fills-last {A} {B} {good} {good′} {lay′} make get h sub up same =
+    fills-as make h (λ b g. up b g .0) (λ b g. append-nil (lay′ (get (make b))) ∙ ap lay′ (up b g .1)) (λ a g. (get a, same a g, sub a g))
+
+module _ {A : Type 0} {good : A → Type 0} {lay : A → List ℕ} where
+  pub fills-choose : {r s : Reader A} (b : Bool) → (T b → Fills r lay good) → (T (not b) → Fills s lay good) → Fills (choose b r s) lay good
+  unfolding choose
+  fills-choose true h k = record { sound = h tt .sound; complete = h tt .complete }
+  fills-choose false h k = record { sound = k tt .sound; complete = k tt .complete }
+
+  -- all that is left
+  pub fills-rest : (make : List ℕ → A) → ((s : List ℕ) → Octets s → good (make s)) → ((s : List ℕ) → lay (make s) ≡ s) → ((a : A) → good a → a ≡ make (lay a)) → Fills (rest λ s. done (make s)) lay good
+  unfolding rest done
+  fills-rest make up same down =
+      record {
+        sound = λ d pos end c a next e.
+            let n = end - pos in
+            let s = part d pos n in
+            let ea : make s ≡ a = cc in
+            let en : end ≡ next = cc in
+            let es : pos + n ≡ end = omega (arith, c .room) in
+            let el : s ≡ lay a = sym (same s) ∙ ap lay ea in
+            let ls : length s ≡ n = length-part d pos n (omega (arith, c .fits, c .room)) in
+            (subst (λ (x : List ℕ). Found d pos end x end) el (record { span = omega arith; here = rw es at (part-at d pos n); room = omega arith }), sym en, subst good ea (up s (octets-part d pos n (c .octs))));
+        complete = λ d pos end c a f g.
+            let el : part d pos (end - pos) ≡ lay a = found-whole (lay a) (end - pos) (omega (arith, f .span)) f in
+            ap (λ (x : List ℕ). ok (make x) end) el ∙ ap (λ (x : A). ok x end) (sym (down a g));
+      }
+
+-- ---- the same reader, and the same layout, said otherwise
+
+module _ {A : Type 0} {good : A → Type 0} {lay : A → List ℕ} where
+  pub fills-same : {r r′ : Reader A} → ((d : List ℕ) (pos end : ℕ) → r′ d pos end ≡ r d pos end) → Fills r lay good → Fills r′ lay good
+  fills-same e h =
+      record { sound = λ d pos end c a next q. h .sound d pos end c a next (sym (e d pos end) ∙ q); complete = λ d pos end c a f g. e d pos end ∙ h .complete d pos end c a f g }
+
+  pub reads-good : {m : ℕ} {r : Reader A} {good′ : A → Type 0} → ((a : A) → good a → good′ a) → ((a : A) → good′ a → good a) → Reads m r lay good → Reads m r lay good′
+  reads-good up down h =
+      record {
+        sound = λ d pos end c a next q. let s = h .sound d pos end c a next q in (s .0, up a (s .1));
+        complete = λ d pos end c a next f g. h .complete d pos end c a next f (down a g);
+        short = λ d pos end c a s g. h .short d pos end c a s (down a g);
+        least = λ a g. h .least a (down a g);
+      }
+
+  pub reads-lay : {m : ℕ} {r : Reader A} (lay′ : A → List ℕ) → ((a : A) → lay a ≡ lay′ a) → Reads m r lay good → Reads m r lay′ good
+  reads-lay {m} {r} lay′ e h = subst (λ (l : A → List ℕ). Reads m r l good) (λ j a. e a j) h
+
+  pub fills-lay : {r : Reader A} (lay′ : A → List ℕ) → ((a : A) → lay a ≡ lay′ a) → Fills r lay good → Fills r lay′ good
+  fills-lay {r} lay′ e h = subst (λ (l : A → List ℕ). Fills r l good) (λ j a. e a j) h
 
 -- ---- a list of them
 

@@ -1,6 +1,7 @@
 pub mod Laws
 pub mod Steps
 pub mod Parts
+pub mod Heads
 pub mod Accept
 pub mod Shown
 pub mod Octs

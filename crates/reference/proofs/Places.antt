@@ -6,7 +6,8 @@ use mathlib.Core.List.{List, [], _∷_, _++_, map}
 use lib.ListN.{length, replicate}
 use Rattle.octets.specs.Octets.{be, joined}
 use Rattle.reference.specs.Meaning.{Reference}
-use Rattle.reference.specs.Reader.{Answer, ok, refused, done, need, number, run, check, choose, ending, within, inside, many, after, component, readTap, readLocation, readBinder, readExtra, readBiop, readAddress, readName, readService, readLite, readProfile, readReference, readLeading, readWhole}
+use Rattle.reference.specs.Steps.{Answer, ok, refused, done, need, number, checked, run, rest, choose, ending, within, fits, apart, many, after}
+use Rattle.reference.specs.Reader.{readCount, readRun, readNamed, component, readFixed, readExtra, readTap, readLocation, readObjectLocation, readBinder, readBiop, readAddress, readName, readContext, readService, readLite, readBody, readProfile, readReference, readLeading, readWhole}
 
 -- accepted with so many octets, or the refusal
 pub data Out : Type 0 where
@@ -177,9 +178,9 @@ slices =
     ∷ []
 
 pub leading-places : map (λ q. out (readLeading (q .0))) (references ++ biops ++ lites ++ tables) ≡ map (λ q. q .1) (references ++ biops ++ lites ++ tables)
-unfolding be done need number run check choose ending within inside many after component readTap readLocation readBinder readExtra readBiop readAddress readName readService readLite readProfile readReference readLeading
+unfolding be done need number checked run rest choose ending within fits apart many after readCount readRun readNamed component readFixed readExtra readTap readLocation readObjectLocation readBinder readBiop readAddress readName readContext readService readLite readBody readProfile readReference readLeading
 leading-places = refl
 
 pub whole-places : map (λ q. out (readWhole (q .0))) slices ≡ map (λ q. q .1) slices
-unfolding be done need number run check choose ending within inside many after component readTap readLocation readBinder readExtra readBiop readAddress readName readService readLite readProfile readReference readWhole
+unfolding be done need number checked run rest choose ending within fits apart many after readCount readRun readNamed component readFixed readExtra readTap readLocation readObjectLocation readBinder readBiop readAddress readName readContext readService readLite readBody readProfile readReference readWhole
 whole-places = refl

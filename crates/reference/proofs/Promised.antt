@@ -13,9 +13,11 @@ use Rattle.reference.specs.declared.Reading.{Reading}
 use Rattle.reference.specs.declared.Answer.the-variants.{Count, Refused}
 use Rattle.reference.specs.Meaning.{Reference}
 use Rattle.reference.specs.Layout.{Leads}
-use Rattle.reference.specs.Reader.{Answer, ok, refused, readLeading, readWhole}
-use Rattle.reference.specs.Tables.{tablesOf, tabled, noTables}
-use Rattle.reference.specs.Writer.{answered, written, leaves}
+use Rattle.reference.specs.Steps.{Answer, ok, refused}
+use Rattle.reference.specs.Reader.{readLeading, readWhole, answered}
+use Rattle.reference.specs.Placed.{tablesOf}
+use Rattle.reference.specs.Tabled.{tabled, noTables}
+use Rattle.reference.specs.Writer.{written, leaves}
 use Rattle.reference.specs.Promises.{taking, ShowsFields, GivesBack}
 use Rattle.reference.proofs.Accept.{accepted, only-accepted, whole, only-whole, whole-leads, unique}
 use Rattle.reference.proofs.Shows.{fields-shown}

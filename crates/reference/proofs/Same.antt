@@ -11,8 +11,13 @@ use Rattle.reference.specs.declared.Answer.the-variants.{Count}
 use Rattle.reference.specs.declared.Tables.{Tables}
 use Rattle.reference.specs.Meaning.{Reference}
 use Rattle.reference.specs.Layout.{layoutOf, Leads}
-use Rattle.reference.specs.Reader.{ok, readWhole}
-use Rattle.reference.specs.Tables.{Used, tapsIn, namesIn, extrasIn, shown, tapOf, nameOf, extraOf, contents, tablesOf, canon, tabled, usedOf, bodySaid, said}
+use Rattle.reference.specs.Steps.{ok}
+use Rattle.reference.specs.Reader.{readWhole}
+use Rattle.reference.specs.Used.{Used, tapsIn, namesIn, extrasIn}
+use Rattle.reference.specs.Contents.{shown, tapOf, nameOf, extraOf, contents, bodySaid, said}
+use Rattle.reference.specs.Placed.{tablesOf}
+use Rattle.reference.specs.Standard.{canon}
+use Rattle.reference.specs.Tabled.{tabled, usedOf}
 use Rattle.reference.specs.Writer.{counted, imageOf, written, leaves}
 use Rattle.reference.specs.Promises.{Agrees, GivesBack, SameUsed}
 use Rattle.reference.proofs.Octs.{layout-octets}

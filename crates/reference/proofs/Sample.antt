@@ -9,11 +9,12 @@ use Rattle.reference.specs.declared.TaggedProfile.the-variants as Sort
 use Rattle.reference.specs.declared.Tables.{Tables}
 use Rattle.reference.specs.declared.Answer.the-variants.{Count}
 use Rattle.octets.specs.Octets.{be, octets, splice}
-use Rattle.reference.specs.Layout.{layoutTap, layoutLocation, layoutBinder, layoutExtra, layoutBiop, layoutAddress, layoutName, layoutService, layoutLite, tagOf, dataOf, layoutProfile, layoutOf}
-use Rattle.reference.specs.Reader.{done, need, number, run, check, choose, ending, within, inside, many, after, component, readTap, readLocation, readBinder, readExtra, readBiop, readAddress, readName, readService, readLite, readProfile, readReference, readLeading}
-use Rattle.reference.specs.Tables.{filled, tabled, noTables}
+use Rattle.reference.specs.Layout.{layoutTap, layoutLocation, layoutBinder, layoutExtra, layoutBiop, layoutAddress, layoutService, layoutLite, tagOf, dataOf, layoutProfile, layoutOf, layoutNamed}
+use Rattle.reference.specs.Steps.{done, need, number, checked, run, rest, choose, ending, within, fits, apart, many, after}
+use Rattle.reference.specs.Reader.{readCount, readRun, readNamed, component, readFixed, readExtra, readTap, readLocation, readObjectLocation, readBinder, readBiop, readAddress, readName, readContext, readService, readLite, readBody, readProfile, readReference, readLeading, answered}
+use Rattle.reference.specs.Tabled.{filled, tabled, noTables}
 use Rattle.reference.specs.Checks.{test, both, each}
-use Rattle.reference.specs.Writer.{answered, imageOf, sizeOf, countsCheck, viewsCheck, measureCheck, writeCheck, leaves}
+use Rattle.reference.specs.Writer.{imageOf, sizeOf, countsCheck, viewsCheck, measureCheck, writeCheck, leaves}
 
 abbrev v : ℕ → ℕ → View
 v at len = record { at = at; len = len }
@@ -47,11 +48,11 @@ seen =
     })
 
 pub sample-seen : answered (readLeading sample) ≡ record { answer = Count 137; tables = seen }
-unfolding filled be done need number run check choose ending within inside many after component readTap readLocation readBinder readExtra readBiop readAddress readName readService readLite readProfile readReference readLeading layoutProfile layoutLocation octets dataOf layoutBinder layoutBiop layoutTap layoutExtra layoutName layoutLite layoutService layoutAddress
+unfolding filled be done need number checked run rest choose ending within fits apart many after readCount readRun readNamed component readFixed readExtra readTap readLocation readObjectLocation readBinder readBiop readAddress readName readContext readService readLite readBody readProfile readReference readLeading layoutProfile layoutLocation octets dataOf layoutBinder layoutBiop layoutTap layoutExtra layoutNamed layoutLite layoutService layoutAddress
 sample-seen = refl
 
 pub sample-back : leaves seen sample (replicate 138 0xA5) ≡ sample ++ (0xA5 ∷ [])
-unfolding octets splice filled layoutTap layoutLocation layoutBinder layoutExtra layoutBiop layoutAddress layoutName layoutService layoutLite tagOf dataOf layoutProfile layoutOf imageOf leaves test both each countsCheck viewsCheck sizeOf measureCheck writeCheck
+unfolding octets splice filled layoutTap layoutLocation layoutBinder layoutExtra layoutBiop layoutAddress layoutNamed layoutService layoutLite tagOf dataOf layoutProfile layoutOf imageOf leaves test both each countsCheck viewsCheck sizeOf measureCheck writeCheck
 sample-back = refl
 
 -- what is unused is zero throughout

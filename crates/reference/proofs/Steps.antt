@@ -6,57 +6,66 @@ use mathlib.Core.List.{List}
 use mathlib.Core.Logic.{_≢_}
 use native.Mathlib.Omega.{arith}
 use lib.Dec.{T, ltb, lt→ltb, not-T, eqb, eqb→eq, eqb-refl}
-use Rattle.octets.specs.Octets.{part}
+use Rattle.octets.specs.Octets.{part, be}
 use Rattle.reference.specs.declared.Refusal.{Refusal}
-use Rattle.reference.specs.Reader.{Answer, ok, refused, refusal, Reader, pick, followed, seen, need, run, check, within, ending, after}
+use Rattle.reference.specs.Steps.{Answer, ok, refused, Reader, pick, followed, seen, done, need, number, run, checked, within, fits, ending, after}
+use Rattle.reference.specs.Refusals.{cutAt, leftAt, longAt, wrongAt}
 use Rattle.reference.proofs.Laws.{guard-pass, pass-pass, not-ltb}
 
 module _ {A : Type 0} (d : List ℕ) (pos end : ℕ) where
-  pub need-cut : (k place : ℕ) (r : Reader A) → end < pos + k → need k place r d pos end ≡ refused (refusal 1 place (pos + k) end)
+  pub need-cut : (k place : ℕ) (r : Reader A) → end < pos + k → need k place r d pos end ≡ refused (cutAt place pos k end)
   unfolding need
-  need-cut k place r h = pass-pass (ltb end (pos + k)) (refused (refusal 1 place (pos + k) end)) (r d pos end) (lt→ltb end (pos + k) h)
+  need-cut k place r h = pass-pass (ltb end (pos + k)) (refused (cutAt place pos k end)) (r d pos end) (lt→ltb end (pos + k) h)
 
   pub need-pass : (k place : ℕ) (r : Reader A) → pos + k ≤ end → need k place r d pos end ≡ r d pos end
   unfolding need
-  need-pass k place r h = guard-pass (ltb end (pos + k)) (refused (refusal 1 place (pos + k) end)) (r d pos end) (not-ltb end (pos + k) h)
+  need-pass k place r h = guard-pass (ltb end (pos + k)) (refused (cutAt place pos k end)) (r d pos end) (not-ltb end (pos + k) h)
 
-  pub run-cut : (n : ℕ) (f : List ℕ → Reader A) → end - pos < n → run n f d pos end ≡ refused (refusal 2 0 n (end - pos))
+  pub run-cut : (n : ℕ) (f : List ℕ → Reader A) → end - pos < n → run n f d pos end ≡ refused (longAt pos n end)
   unfolding run
-  run-cut n f h = pass-pass (ltb (end - pos) n) (refused (refusal 2 0 n (end - pos))) (f (part d pos n) d (pos + n) end) (lt→ltb (end - pos) n h)
+  run-cut n f h = pass-pass (ltb (end - pos) n) (refused (longAt pos n end)) (f (part d pos n) d (pos + n) end) (lt→ltb (end - pos) n h)
 
   pub run-pass : (n : ℕ) (f : List ℕ → Reader A) → n ≤ end - pos → run n f d pos end ≡ f (part d pos n) d (pos + n) end
   unfolding run
-  run-pass n f h = guard-pass (ltb (end - pos) n) (refused (refusal 2 0 n (end - pos))) (f (part d pos n) d (pos + n) end) (not-ltb (end - pos) n h)
+  run-pass n f h = guard-pass (ltb (end - pos) n) (refused (longAt pos n end)) (f (part d pos n) d (pos + n) end) (not-ltb (end - pos) n h)
 
 module _ {A : Type 0} (d : List ℕ) (pos end : ℕ) where
-  pub check-pass : (b : Bool) (x : Refusal) (r : Reader A) → T b → check b x r d pos end ≡ r d pos end
-  unfolding check
-  check-pass b x r t = pass-pass b (r d pos end) (refused x) t
+  pub checked-pass : (w : ℕ) (test : ℕ → Bool) (n place : ℕ) (f : ℕ → Reader A) → T (test (be (part d pos w))) → checked w test n place f d pos end ≡ number w f d pos end
+  unfolding checked
+  checked-pass w test n place f t = pass-pass (test (be (part d pos w))) (number w f d pos end) (refused (wrongAt n place)) t
 
-  pub check-not : (b : Bool) (x : Refusal) (r : Reader A) → T (not b) → check b x r d pos end ≡ refused x
-  unfolding check
-  check-not b x r t = guard-pass b (r d pos end) (refused x) t
+  pub checked-not : (w : ℕ) (test : ℕ → Bool) (n place : ℕ) (f : ℕ → Reader A) → T (not (test (be (part d pos w)))) → checked w test n place f d pos end ≡ refused (wrongAt n place)
+  unfolding checked
+  checked-not w test n place f t = guard-pass (test (be (part d pos w))) (number w f d pos end) (refused (wrongAt n place)) t
 
-  pub within-cut : (n : ℕ) (r : Reader A) → end - pos < n → within n r d pos end ≡ refused (refusal 2 0 n (end - pos))
+  pub within-cut : (n : ℕ) (r : Reader A) → end - pos < n → within n r d pos end ≡ refused (longAt pos n end)
   unfolding within
-  within-cut n r h = pass-pass (ltb (end - pos) n) (refused (refusal 2 0 n (end - pos))) (r d pos (pos + n)) (lt→ltb (end - pos) n h)
+  within-cut n r h = pass-pass (ltb (end - pos) n) (refused (longAt pos n end)) (r d pos (pos + n)) (lt→ltb (end - pos) n h)
 
   pub within-pass : (n : ℕ) (r : Reader A) → n ≤ end - pos → within n r d pos end ≡ r d pos (pos + n)
   unfolding within
-  within-pass n r h = guard-pass (ltb (end - pos) n) (refused (refusal 2 0 n (end - pos))) (r d pos (pos + n)) (not-ltb (end - pos) n h)
+  within-pass n r h = guard-pass (ltb (end - pos) n) (refused (longAt pos n end)) (r d pos (pos + n)) (not-ltb (end - pos) n h)
+
+  pub fits-cut : (n : ℕ) (r : Reader A) → end - pos < n → fits n r d pos end ≡ refused (longAt pos n end)
+  unfolding fits
+  fits-cut n r h = pass-pass (ltb (end - pos) n) (refused (longAt pos n end)) (r d pos end) (lt→ltb (end - pos) n h)
+
+  pub fits-pass : (n : ℕ) (r : Reader A) → n ≤ end - pos → fits n r d pos end ≡ r d pos end
+  unfolding fits
+  fits-pass n r h = guard-pass (ltb (end - pos) n) (refused (longAt pos n end)) (r d pos end) (not-ltb (end - pos) n h)
 
   pub ending-no : (place : ℕ) (r : Reader A) {x : Refusal} → r d pos end ≡ refused x → ending place r d pos end ≡ refused x
   unfolding ending
   ending-no place r e = rw (e, ending)
 
-  pub ending-left : (place : ℕ) (r : Reader A) {a : A} {next : ℕ} → r d pos end ≡ ok a next → next ≢ end → ending place r d pos end ≡ refused (refusal 1 place (end - next) 0)
+  pub ending-left : (place : ℕ) (r : Reader A) {a : A} {next : ℕ} → r d pos end ≡ ok a next → next ≢ end → ending place r d pos end ≡ refused (leftAt place next end)
   unfolding ending
   ending-left place r {a} {next} e h =
-      rw (e, ending) (guard-pass (eqb next end) (ok a next) (refused (refusal 1 place (end - next) 0)) (not-T (eqb next end) (λ t. h (eqb→eq next end t))))
+      rw (e, ending) (guard-pass (eqb next end) (ok a next) (refused (leftAt place next end)) (not-T (eqb next end) (λ t. h (eqb→eq next end t))))
 
   pub ending-ok : (place : ℕ) (r : Reader A) {a : A} → r d pos end ≡ ok a end → ending place r d pos end ≡ ok a end
   unfolding ending
-  ending-ok place r {a} e = rw (e, ending) (pass-pass (eqb end end) (ok a end) (refused (refusal 1 place (end - end) 0)) (eqb-refl end))
+  ending-ok place r {a} e = rw (e, ending) (pass-pass (eqb end end) (ok a end) (refused (leftAt place end end)) (eqb-refl end))
 
   pub after-no : {B : Type 0} (r : Reader B) (f : B → Reader A) {x : Refusal} → r d pos end ≡ refused x → after r f d pos end ≡ refused x
   unfolding after
@@ -77,8 +86,8 @@ pub ending-at : {A : Type 0} (place : ℕ) (r : Reader A) (d : List ℕ) (pos en
 unfolding ending
 ending-at {A} place r d pos end {a} {n} e = go (r d pos end) e
   where
-    go : (x : Answer A) → followed x (λ a next. pick (eqb next end) (ok a next) (refused (refusal 1 place (end - next) 0))) ≡ ok a n → n ≡ end
-    go (ok b m) q = let p = picked-eq (eqb m end) b m (refusal 1 place (end - m) 0) q in sym (p .1) ∙ eqb→eq m end (p .0)
+    go : (x : Answer A) → followed x (λ a next. pick (eqb next end) (ok a next) (refused (leftAt place next end))) ≡ ok a n → n ≡ end
+    go (ok b m) q = let p = picked-eq (eqb m end) b m (leftAt place m end) q in sym (p .1) ∙ eqb→eq m end (p .0)
     go (refused x) q = let z : _≡_ {A = ℕ} 0 1 = cc in absurd (omega arith)
 
 pub followed-followed : {A B C : Type 0} (x : Answer A) (f : A → ℕ → Answer B) (g : B → ℕ → Answer C)
@@ -86,25 +95,38 @@ pub followed-followed : {A B C : Type 0} (x : Answer A) (f : A → ℕ → Answe
 followed-followed (ok a n) f g = refl
 followed-followed (refused y) f g = refl
 
-pub followed-same : {A : Type 0} (x : Answer A) → followed x (λ a n. ok a n) ≡ x
-followed-same (ok a n) = refl
-followed-same (refused y) = refl
+-- ---- what follows a step, put inside it
 
--- what must reach the end may be made into something else before or after that is tested
-swap-picked : {A B : Type 0} (h : A → B) (b : Bool) (a : A) (n : ℕ) (y : Refusal) → pick b (ok (h a) n) (refused y) ≡ followed (pick b (ok a n) (refused y)) (λ a n. ok (h a) n)
-swap-picked h true a n y = refl
-swap-picked h false a n y = refl
+pub guarded-then : {A B : Type 0} (b : Bool) (x : Refusal) (y : Answer B) (f : B → ℕ → Answer A) → followed (pick b (refused x) y) f ≡ pick b (refused x) (followed y f)
+guarded-then true x y f = refl
+guarded-then false x y f = refl
 
-pub swap : {A B : Type 0} (h : A → B) (place end : ℕ) (x : Answer A)
-    → followed (followed x (λ a n. ok (h a) n)) (λ b n. pick (eqb n end) (ok b n) (refused (refusal 1 place (end - n) 0)))
-    ≡ followed (followed x (λ a n. pick (eqb n end) (ok a n) (refused (refusal 1 place (end - n) 0)))) (λ a n. ok (h a) n)
-swap h place end (ok a n) = swap-picked h (eqb n end) a n (refusal 1 place (end - n) 0)
-swap h place end (refused y) = refl
+pub passed-then : {A B : Type 0} (b : Bool) (x : Refusal) (y : Answer B) (f : B → ℕ → Answer A) → followed (pick b y (refused x)) f ≡ pick b (followed y f) (refused x)
+passed-then true x y f = refl
+passed-then false x y f = refl
+
+pub then-same : {A B : Type 0} (x : Answer B) {f g : B → ℕ → Answer A} → ((b : B) (n : ℕ) → f b n ≡ g b n) → followed x f ≡ followed x g
+then-same (ok b n) h = h b n
+then-same (refused y) h = refl
+
+module _ {A B : Type 0} (d : List ℕ) (pos end : ℕ) where
+  -- what is made of an answer, and nothing more is read
+  pub after-done : (r : Reader B) (make : B → A) → after r (λ b. done (make b)) d pos end ≡ seen make (r d pos end)
+  unfolding after done
+  after-done r make = go (r d pos end)
+    where
+      go : (x : Answer B) → followed x (λ b next. ok (make b) next) ≡ seen make x
+      go (ok b next) = refl
+      go (refused y) = refl
 
 -- what code got, the reader got: its value, and the entry made of it
 pub seen-ok : {A B : Type 0} (f : A → B) (x : Answer A) {b : B} {n : ℕ} → seen f x ≡ ok b n → (a : A) × (x ≡ ok a n) × (b ≡ f a)
 seen-ok f (ok a m) {b} {n} e = let q : m ≡ n = cc in (a, ap (λ (k : ℕ). ok a k) q, cc)
 seen-ok f (refused y) e = let z : _≡_ {A = ℕ} 0 1 = cc in absurd (omega arith)
+
+pub seen-seen : {A B C : Type 0} (f : A → B) (g : B → C) (x : Answer A) → seen g (seen f x) ≡ seen (λ a. g (f a)) x
+seen-seen f g (ok a n) = refl
+seen-seen f g (refused y) = refl
 
 pub seen-no : {A B : Type 0} (f : A → B) (x : Answer A) {y : Refusal} → seen f x ≡ refused y → x ≡ refused y
 seen-no f (ok a m) e = let z : _≡_ {A = ℕ} 0 1 = cc in absurd (omega arith)

@@ -11,7 +11,12 @@ use Rattle.reference.specs.declared.Reading.{Reading}
 use Rattle.reference.specs.declared.Answer.{Answer as Told}
 use Rattle.reference.specs.declared.Answer.the-variants.{Count, Refused}
 use Rattle.reference.specs.Meaning.{Reference}
-use Rattle.reference.specs.Tables.{tapsIn, namesIn, extrasIn, contents, tablesOf, canon, standardOf, Free, Standard, noProfile, noTap, noName, noExtra, usedOf, Typed, said}
+use Rattle.reference.specs.Used.{tapsIn, namesIn, extrasIn}
+use Rattle.reference.specs.Contents.{contents, said}
+use Rattle.reference.specs.Placed.{tablesOf}
+use Rattle.reference.specs.Standard.{canon, standardOf, Free, Standard}
+use Rattle.reference.specs.Tabled.{noProfile, noTap, noName, noExtra, usedOf}
+use Rattle.reference.specs.Typed.{Typed}
 use Rattle.reference.specs.Checks.{Among}
 use Rattle.reference.specs.Writer.{counted, imageOf, measured, written, leaves}
 

@@ -1,169 +1,140 @@
--- What a reading answers, as a function on lists (document 01, "Refusals by number" and "Places"): a few steps, and the readers of each part put
--- together from them, with the Rust's checks in their order. 6 comes first; in the whole-slice reading leftover octets come last; then 7.
--- Inside profile data the figures count from the start of that data. Assumes nothing.
-use Prim.Native.Nat.{ℕ, zero, suc, _+_, _-_, _%_}
-use mathlib.Core.Bool.{Bool, true, false}
-use mathlib.Core.List.{List, [], _∷_}
+-- What a reading answers, as a function on lists (document 01, "Refusals by number" and "Places"): the readers of each part, put together from
+-- steps and nested as 01 nests the parts, with the Rust's checks in their order. 6 comes first; in the whole-slice reading leftover octets come
+-- last; then 7. Inside profile data the figures count from the start of that data. Assumes nothing.
+use Prim.Native.Nat.{ℕ, _+_, _-_, _%_}
+use mathlib.Core.List.{List}
 use lib.Dec.{ltb, leb, eqb}
-use Rattle.octets.specs.Octets.{part, be}
 use lib.ListN.{length}
-use Rattle.reference.specs.declared.Refusal.{Refusal}
-use Rattle.reference.specs.Meaning.{Tap, Location, Extra, Biop, Address, Name, Service, Lite, Profile, biop, lite, opaque, Reference, tapsOf, namesOf, extrasOf, total}
+use Rattle.reference.specs.declared.Answer.the-variants.{Count, Refused}
+use Rattle.reference.specs.declared.Reading.{Reading}
+use Rattle.reference.specs.Meaning.{Tap, Location, Extra, Biop, Address, Name, Service, Lite, Profile, biop, lite, opaque, Reference, tapsOf, namesOf, extrasOf, sum}
 use Rattle.reference.specs.Layout.{tag-biop, tag-lite, tag-location, tag-binder, tag-service}
+use Rattle.reference.specs.Places.{place-reference-fixed, place-profile-count, place-profile-header, place-reference-leftover, place-biop-fixed, place-location-header, place-location-fixed, place-location-leftover, place-binder-header, place-tap-count, place-tap-fixed, place-binder-leftover, place-biop-extra, place-biop-leftover, place-lite-fixed, place-service-header, place-address-length, place-address, place-name-count, place-id-length, place-kind-length, place-context-length, place-service-leftover, place-lite-extra, place-lite-leftover, place-biop-order, place-location-tag, place-binder-tag, place-lite-order, place-service-tag, place-type-id-length, place-biop-components, place-lite-components, place-address-size, place-profiles, place-taps, place-names, place-extras}
+use Rattle.reference.specs.Refusals.{refusal}
+use Rattle.reference.specs.Steps.{Answer, ok, refused, Reader, pick, followed, done, need, number, checked, run, rest, choose, ending, within, fits, apart, many, after}
+use Rattle.reference.specs.Tabled.{tabled, noTables}
+use Rattle.reference.specs.Placed.{tablesOf}
 
-pub data Answer (A : Type 0) : Type 0 where
-  ok : A → ℕ → Answer A
-  refused : Refusal → Answer A
+-- ---- what the parts share
 
--- of d, from pos, before end
-abbrev pub Reader : Type 0 → Type 0
-Reader A = List ℕ → ℕ → ℕ → Answer A
+-- a count of w octets
+unfoldable pub readCount : ℕ → ℕ → Reader ℕ
+readCount w place = need w place (number w λ n. done n)
 
-abbrev pub pick : {A : Type 0} → Bool → A → A → A
-pick true a b = a
-pick false a b = b
+-- a length of w octets, and so many octets
+unfoldable pub readRun : ℕ → ℕ → Reader (List ℕ)
+readRun w place = need w place (number w λ n. run n λ s. done s)
 
-abbrev pub refusal : ℕ → ℕ → ℕ → ℕ → Refusal
-refusal n p a b = record { number = n; place = p; first = a; second = b }
+-- a name whose lengths have w octets
+unfoldable pub readNamed : ℕ → ℕ → ℕ → Reader Name
+readNamed w idPlace kindPlace = after (readRun w idPlace) λ i. after (readRun w kindPlace) λ k. done (record { id = i; kind = k })
 
-abbrev pub followed : {A B : Type 0} → Answer B → (B → ℕ → Answer A) → Answer A
-followed (ok b next) f = f b next
-followed (refused x) f = refused x
+-- a component that bears the tag, or 3, and whose length has w octets; r reads its data, which ends where the length says
+unfoldable pub component : {A : Type 0} → ℕ → ℕ → ℕ → ℕ → Reader A → Reader A
+component w tag header wrong r = need (4 + w) header (checked 4 (λ t. eqb t tag) 3 wrong λ t. number w λ n. within n r)
 
--- the answer with its value told otherwise, as an entry of a table
-abbrev pub seen : {A B : Type 0} → (A → B) → Answer A → Answer B
-seen f (ok a next) = ok (f a) next
-seen f (refused x) = refused x
+-- order octet 00 and component count, at least so many
+unfoldable pub readFixed : ℕ → ℕ → ℕ → ℕ → Reader ℕ
+readFixed least place order range = need (1 + 1) place (checked 1 (λ o. eqb o 0) 3 order λ o. checked 1 (leb least) 4 range λ c. done c)
 
-module _ {A : Type 0} where
-  -- the answer, and nothing more is read
-  unfoldable pub done : A → Reader A
-  done a d pos end = ok a pos
+unfoldable pub readExtra : ℕ → Reader Extra
+readExtra place = need (4 + 1) place (number 4 λ t. number 1 λ n. run n λ s. done (record { tag = t; bytes = s }))
 
-  -- k octets must be there, or 1
-  unfoldable pub need : ℕ → ℕ → Reader A → Reader A
-  need k place r d pos end = pick (ltb end (pos + k)) (refused (refusal 1 place (pos + k) end)) (r d pos end)
-
-  -- a number of w octets, which are known to be there
-  unfoldable pub number : ℕ → (ℕ → Reader A) → Reader A
-  number w f d pos end = f (be (part d pos w)) d (pos + w) end
-
-  -- n octets, or 2
-  unfoldable pub run : ℕ → (List ℕ → Reader A) → Reader A
-  run n f d pos end = pick (ltb (end - pos) n) (refused (refusal 2 0 n (end - pos))) (f (part d pos n) d (pos + n) end)
-
-  -- b must hold
-  unfoldable pub check : Bool → Refusal → Reader A → Reader A
-  check b x r d pos end = pick b (r d pos end) (refused x)
-
-  -- one of two
-  unfoldable pub choose : Bool → Reader A → Reader A → Reader A
-  choose b r s d pos end = pick b (r d pos end) (s d pos end)
-
-  -- what is read must reach the end, or 1
-  unfoldable pub ending : ℕ → Reader A → Reader A
-  ending place r d pos end = followed (r d pos end) (λ a next. pick (eqb next end) (ok a next) (refused (refusal 1 place (end - next) 0)))
-
-  -- a component of n octets, or 2
-  unfoldable pub within : ℕ → Reader A → Reader A
-  within n r d pos end = pick (ltb (end - pos) n) (refused (refusal 2 0 n (end - pos))) (r d pos (pos + n))
-
-  -- data of n octets, or 2, read as a list of its own
-  unfoldable pub inside : ℕ → Reader A → Reader A
-  inside n r d pos end =
-      pick (ltb (end - pos) n) (refused (refusal 2 0 n (end - pos))) (followed (r (part d pos n) 0 n) (λ a next. ok a (pos + n)))
-
-  -- n of them
-  unfoldable pub many : ℕ → Reader A → Reader (List A)
-  many zero r d pos end = ok [] pos
-  many (suc n) r d pos end = followed (r d pos end) (λ a next. followed (many n r d next end) (λ l last. ok (a ∷ l) last))
-
-  -- one after the other
-  unfoldable pub after : {B : Type 0} → Reader B → (B → Reader A) → Reader A
-  after r f d pos end = followed (r d pos end) (λ b next. f b d next end)
-
-  -- a component with the tag, or 3, whose length has w octets; its data ends where the length says
-  unfoldable pub component : ℕ → ℕ → ℕ → ℕ → ℕ → Reader A → Reader A
-  component w tag header wrong left r =
-      need (4 + w) header
-      (number 4 λ t. check (eqb t tag) (refusal 3 wrong 0 0)
-      (number w λ n. after (within n (ending left r)) λ a. done a))
-
--- ---- the parts
+-- ---- BIOP data
 
 unfoldable pub readTap : Reader Tap
 readTap =
-    need 7 11
+    need (2 + 2 + 2 + 1) place-tap-fixed
     (number 2 λ i. number 2 λ u. number 2 λ a. number 1 λ n. run n λ s.
     done (record { id = i; uses = u; association = a; selector = s }))
 
 unfoldable pub readLocation : Reader Location
 readLocation =
-    need 9 7
+    need (4 + 2 + 1 + 1 + 1) place-location-fixed
     (number 4 λ c. number 2 λ m. number 1 λ j. number 1 λ i. number 1 λ n. run n λ k.
     done (record { carousel = c; moduleId = m; major = j; minor = i; key = k }))
 
-unfoldable pub readBinder : Reader (List Tap)
-readBinder = need 1 10 (number 1 λ n. after (many n readTap) λ l. done l)
+unfoldable pub readObjectLocation : Reader Location
+readObjectLocation = component 1 tag-location place-location-header place-location-tag (ending place-location-leftover readLocation)
 
-unfoldable pub readExtra : ℕ → Reader Extra
-readExtra place = need 5 place (number 4 λ t. number 1 λ n. run n λ s. done (record { tag = t; bytes = s }))
+-- so many taps, which end their component
+abbrev pub readTaps : ℕ → Reader (List Tap)
+readTaps n = ending place-binder-leftover (many n readTap)
+
+unfoldable pub readBinder : Reader (List Tap)
+readBinder = after (readCount 1 place-tap-count) λ n. readTaps n
+
+abbrev pub readBiopFixed : Reader ℕ
+readBiopFixed = readFixed 2 place-biop-fixed place-biop-order place-biop-components
+
+-- so many extras, which end the data
+abbrev pub readBiopExtras : ℕ → Reader (List Extra)
+readBiopExtras n = ending place-biop-leftover (many n (readExtra place-biop-extra))
 
 unfoldable pub readBiop : Reader Biop
 readBiop =
-    ending 14
-    (need 2 5
-    (number 1 λ o. check (eqb o 0) (refusal 3 28 0 0)
-    (number 1 λ c. check (leb 2 c) (refusal 4 34 0 0)
-    (after (component 1 tag-location 6 29 8 readLocation) λ l.
-    after (component 1 tag-binder 9 30 12 readBinder) λ b.
-    after (many (c - 2) (readExtra 13)) λ e.
-    done (record { location = l; taps = b; extras = e })))))
+    after readBiopFixed λ c.
+    after readObjectLocation λ l.
+    after (component 1 tag-binder place-binder-header place-binder-tag readBinder) λ t.
+    after (readBiopExtras (c - 2)) λ e.
+    done (record { location = l; taps = t; extras = e })
+
+-- ---- LiteOptions data
 
 unfoldable pub readAddress : Reader Address
 readAddress =
-    need 20 18
+    need (1 + 1 + 4 + 1 + 3 + 2 + 2 + 2 + 4) place-address
     (number 1 λ f. number 1 λ k. number 4 λ c. number 1 λ p. number 1 λ q. number 1 λ q1. number 1 λ q2. number 2 λ t. number 2 λ o. number 2 λ s. number 4 λ z.
     done (record { afi = f; kind = k; carousel = c; specifierType = p; specifier0 = q; specifier1 = q1; specifier2 = q2; transport = t; network = o; service = s; reserved = z }))
 
 unfoldable pub readName : Reader Name
-readName = need 4 20 (number 4 λ n. run n λ i. need 4 21 (number 4 λ m. run m λ k. done (record { id = i; kind = k })))
+readName = readNamed 4 place-id-length place-kind-length
+
+-- the context, which ends a ServiceLocation
+unfoldable pub readContext : Reader (List ℕ)
+readContext = ending place-service-leftover (readRun 4 place-context-length)
 
 unfoldable pub readService : Reader Service
 readService =
-    need 1 17
-    (number 1 λ n. check (eqb n 0x14) (refusal 4 36 0 0)
-    (after readAddress λ a.
-    need 4 19
-    (number 4 λ c. after (many c readName) λ l.
-    need 4 22
-    (number 4 λ m. run m λ x. done (record { address = a; names = l; context = x })))))
+    need 1 place-address-length
+    (checked 1 (λ n. eqb n 0x14) 4 place-address-size λ n.
+    after readAddress λ a.
+    after (readCount 4 place-name-count) λ c.
+    after (many c readName) λ l.
+    after readContext λ x.
+    done (record { address = a; names = l; context = x }))
+
+abbrev pub readLiteFixed : Reader ℕ
+readLiteFixed = readFixed 1 place-lite-fixed place-lite-order place-lite-components
+
+abbrev pub readLiteExtras : ℕ → Reader (List Extra)
+readLiteExtras n = ending place-lite-leftover (many n (readExtra place-lite-extra))
 
 unfoldable pub readLite : Reader Lite
 readLite =
-    ending 25
-    (need 2 15
-    (number 1 λ o. check (eqb o 0) (refusal 3 31 0 0)
-    (number 1 λ c. check (leb 1 c) (refusal 4 35 0 0)
-    (after (component 4 tag-service 16 32 23 readService) λ s.
-    after (many (c - 1) (readExtra 24)) λ e.
-    done (record { service = s; extras = e })))))
+    after readLiteFixed λ c.
+    after (component 4 tag-service place-service-header place-service-tag readService) λ s.
+    after (readLiteExtras (c - 1)) λ e.
+    done (record { service = s; extras = e })
+
+-- ---- a profile, whose data is a list of its own, and a reference
+
+unfoldable pub readBody : ℕ → Reader Profile
+readBody t =
+    choose (eqb t tag-biop) (after readBiop λ b. done (biop b))
+    (choose (eqb t tag-lite) (after readLite λ l. done (lite l)) (rest λ s. done (opaque t s)))
 
 unfoldable pub readProfile : Reader Profile
-readProfile =
-    need 8 3
-    (number 4 λ t. number 4 λ n.
-    choose (eqb t tag-biop) (after (inside n readBiop) λ b. done (biop b))
-    (choose (eqb t tag-lite) (after (inside n readLite) λ l. done (lite l))
-    (run n λ s. done (opaque t s))))
+readProfile = need (4 + 4) place-profile-header (number 4 λ t. number 4 λ n. fits n (apart n (readBody t)))
 
 unfoldable pub readReference : Reader Reference
 readReference =
-    need 8 1
-    (number 4 λ n. check (eqb (n % 4) 0) (refusal 4 33 0 0)
-    (run n λ i.
-    need 4 2
-    (number 4 λ c. after (many c readProfile) λ l. done (record { typeId = i; profiles = l }))))
+    need (4 + 4) place-reference-fixed
+    (checked 4 (λ n. eqb (n % 4) 0) 4 place-type-id-length λ n.
+    run n λ i.
+    after (readCount 4 place-profile-count) λ c.
+    after (many c readProfile) λ l.
+    done (record { typeId = i; profiles = l }))
 
 -- ---- the whole: 6 first, 7 last
 
@@ -172,17 +143,27 @@ limit size place n x = pick (ltb size n) (refused (refusal 7 place n size)) x
 
 abbrev pub roomy : Reference → ℕ → Answer Reference
 roomy m next =
-    limit 8 40 (length (m .profiles))
-    (limit 36 41 (total tapsOf (m .profiles))
-    (limit 32 42 (total namesOf (m .profiles))
-    (limit 32 43 (total extrasOf (m .profiles)) (ok m next))))
+    limit 8 place-profiles (length (m .profiles))
+    (limit 36 place-taps (sum tapsOf (m .profiles))
+    (limit 32 place-names (sum namesOf (m .profiles))
+    (limit 32 place-extras (sum extrasOf (m .profiles)) (ok m next))))
+
+-- 6 is for a list that is too long
+abbrev pub small : {A : Type 0} → List ℕ → Answer A → Answer A
+small d x = pick (ltb 65535 (length d)) (refused (refusal 6 0 (length d) 65535)) x
 
 abbrev pub sized : List ℕ → Reader Reference → Answer Reference
-sized d r = pick (ltb 65535 (length d)) (refused (refusal 6 0 (length d) 65535)) (followed (r d 0 (length d)) roomy)
+sized d r = small d (followed (r d 0 (length d)) roomy)
 
 -- a leading reference, and a whole slice
 unfoldable pub readLeading : List ℕ → Answer Reference
 readLeading d = sized d readReference
 
 unfoldable pub readWhole : List ℕ → Answer Reference
-readWhole d = sized d (ending 4 readReference)
+readWhole d = sized d (ending place-reference-leftover readReference)
+
+-- ---- what a reading answers: its tables, or the empty ones
+
+abbrev pub answered : Answer Reference → Reading
+answered (ok m n) = record { answer = Count n; tables = tabled (tablesOf m) }
+answered (refused x) = record { answer = Refused x; tables = noTables }

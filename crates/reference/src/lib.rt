@@ -2,11 +2,8 @@
 // constants, and one constructor for each sort of refusal. What a reader must believe of them stands in specs/.
 ghost use mathlib.Core.Path.{_≡_};
 ghost use Prim.Native.Nat.{_+_, _≤_, _<_};
-ghost use lib.Dec.{leb, eqb};
-ghost use Rattle.reference.specs.Reader.{refused, refusal};
-ghost use Rattle.reference.specs.Tables.{noTables};
-ghost use Rattle.reference.specs.Checks as Checks;
-ghost use Rattle.reference.specs.Checks.{test};
+ghost use Rattle.reference.specs.Refusals.{refusal, cutAt, leftAt, longAt};
+ghost use Rattle.reference.specs.Tabled.{noTables};
 
 // A run of octets in the caller's slice.
 pub struct View {
@@ -141,6 +138,87 @@ pub const TAG_CONN_BINDER: u32 = 0x49534F40;
 
 pub const TAG_SERVICE_LOCATION: u32 = 0x49534F46;
 
+// Document 01's places, in its order (specs/Places).
+pub const PLACE_REFERENCE_FIXED: u8 = 1;
+
+pub const PLACE_PROFILE_COUNT: u8 = 2;
+
+pub const PLACE_PROFILE_HEADER: u8 = 3;
+
+pub const PLACE_REFERENCE_LEFTOVER: u8 = 4;
+
+pub const PLACE_BIOP_FIXED: u8 = 5;
+
+pub const PLACE_LOCATION_HEADER: u8 = 6;
+
+pub const PLACE_LOCATION_FIXED: u8 = 7;
+
+pub const PLACE_LOCATION_LEFTOVER: u8 = 8;
+
+pub const PLACE_BINDER_HEADER: u8 = 9;
+
+pub const PLACE_TAP_COUNT: u8 = 10;
+
+pub const PLACE_TAP_FIXED: u8 = 11;
+
+pub const PLACE_BINDER_LEFTOVER: u8 = 12;
+
+pub const PLACE_BIOP_EXTRA: u8 = 13;
+
+pub const PLACE_BIOP_LEFTOVER: u8 = 14;
+
+pub const PLACE_LITE_FIXED: u8 = 15;
+
+pub const PLACE_SERVICE_HEADER: u8 = 16;
+
+pub const PLACE_ADDRESS_LENGTH: u8 = 17;
+
+pub const PLACE_ADDRESS: u8 = 18;
+
+pub const PLACE_NAME_COUNT: u8 = 19;
+
+pub const PLACE_ID_LENGTH: u8 = 20;
+
+pub const PLACE_KIND_LENGTH: u8 = 21;
+
+pub const PLACE_CONTEXT_LENGTH: u8 = 22;
+
+pub const PLACE_SERVICE_LEFTOVER: u8 = 23;
+
+pub const PLACE_LITE_EXTRA: u8 = 24;
+
+pub const PLACE_LITE_LEFTOVER: u8 = 25;
+
+pub const PLACE_SHORT_ID_LENGTH: u8 = 26;
+
+pub const PLACE_SHORT_KIND_LENGTH: u8 = 27;
+
+pub const PLACE_BIOP_ORDER: u8 = 28;
+
+pub const PLACE_LOCATION_TAG: u8 = 29;
+
+pub const PLACE_BINDER_TAG: u8 = 30;
+
+pub const PLACE_LITE_ORDER: u8 = 31;
+
+pub const PLACE_SERVICE_TAG: u8 = 32;
+
+pub const PLACE_TYPE_ID_LENGTH: u8 = 33;
+
+pub const PLACE_BIOP_COMPONENTS: u8 = 34;
+
+pub const PLACE_LITE_COMPONENTS: u8 = 35;
+
+pub const PLACE_ADDRESS_SIZE: u8 = 36;
+
+pub const PLACE_PROFILES: u8 = 40;
+
+pub const PLACE_TAPS: u8 = 41;
+
+pub const PLACE_NAMES: u8 = 42;
+
+pub const PLACE_EXTRAS: u8 = 43;
+
 // Tables that hold nothing: zero throughout.
 pub fn no_tables() -> Tables
     ensures { λ r. ⌜ r ≡ noTables ⌝ }
@@ -173,39 +251,42 @@ pub fn no_tables() -> Tables
     }
 }
 
-// 1: a field or its data is cut off.
-pub fn cut(place: u8, need: usize, have: usize) -> Refusal
-    ensures { λ r. ⌜ r ≡ refusal 1 place need have ⌝ }
+// 1: the k octets of a field at `at` are cut off.
+pub fn cut(place: u8, at: usize, k: usize, end: usize) -> Refusal
+    requires { ⌜ at + k ≤ 18446744073709551615 ⌝ }
+    ensures { λ r. ⌜ r ≡ cutAt place at k end ⌝ }
 {
     Refusal {
         number: 1,
         place,
-        first: need,
-        second: have,
+        first: at + k,
+        second: end,
     }
 }
 
-// 1: octets are left over.
-pub fn left_over(place: u8, count: usize) -> Refusal
-    ensures { λ r. ⌜ r ≡ refusal 1 place count 0 ⌝ }
+// 1: octets are left over, from `at` on.
+pub fn left_over(place: u8, at: usize, end: usize) -> Refusal
+    requires { ⌜ at ≤ end ⌝ }
+    ensures { λ r. ⌜ r ≡ leftAt place at end ⌝ }
 {
     Refusal {
         number: 1,
         place,
-        first: count,
+        first: end - at,
         second: 0,
     }
 }
 
-// 2: a length passes what is there, or what its field can say.
-pub fn too_long(declared: usize, available: usize) -> Refusal
-    ensures { λ r. ⌜ r ≡ refusal 2 0 declared available ⌝ }
+// 2: a length passes what is there from `at` on; in writing, what its field can say (from 0, 255).
+pub fn too_long(at: usize, declared: usize, end: usize) -> Refusal
+    requires { ⌜ at ≤ end ⌝ }
+    ensures { λ r. ⌜ r ≡ longAt at declared end ⌝ }
 {
     Refusal {
         number: 2,
         place: 0,
         first: declared,
-        second: available,
+        second: end - at,
     }
 }
 

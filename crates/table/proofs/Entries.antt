@@ -4,7 +4,7 @@ use mathlib.Core.Path.{_≡_, refl}
 use mathlib.Core.List.{List}
 use lib.ListN.{length, drop, getD}
 use Rattle.reference.specs.declared.Profile.{Profile}
-use Rattle.reference.specs.Tables.{noProfile, noTap, noName, noExtra}
+use Rattle.reference.specs.Tabled.{noProfile, noTap, noName, noExtra}
 use Rattle.table.specs.Flat.{viewFrom, profileFrom, tapFrom, nameFrom, extraFrom, bodyOfTable, tapOfTable, nameOfTable, extraOfTable, tablesFrom}
 use Rattle.table.proofs.Chunks.{chunks-length, entry-get}
 

@@ -14,7 +14,7 @@ use Rattle.table.specs.Flat.{profileRegion, tapRegion, nameRegion, extra
 use Rattle.table.specs.Filed.{filed, countsAfter, profileFiled, profilesFiled}
 use Rattle.reference.specs.Meaning.{Profile, biop, lite, opaque, tapsOf, namesOf, extrasOf}
 use Rattle.reference.specs.Layout.{layoutTap, layoutName, layoutExtra, layoutProfile}
-use Rattle.reference.specs.Tables.{bodyAt, tapAt, nameAt, extraAt, tapsAt, namesAt, extrasAt}
+use Rattle.reference.specs.Placed.{bodyAt, tapAt, nameAt, extraAt, tapsAt, namesAt, extrasAt}
 use Rattle.reference.proofs.Shown.{length-placed}
 use Rattle.table.proofs.Stored.{stored-length, stored-append, stored-comm, stored-none}
 

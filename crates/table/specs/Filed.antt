@@ -9,9 +9,10 @@ use Rattle.reference.specs.declared.Tap.{Tap}
 use Rattle.reference.specs.declared.NameComponent.{NameComponent}
 use Rattle.reference.specs.declared.LiteComponent.{LiteComponent}
 use Rattle.reference.specs.declared.TaggedProfile.{TaggedProfile}
-use Rattle.reference.specs.Meaning.{Profile, Reference, tapsOf, namesOf, extrasOf, total}
+use Rattle.reference.specs.Meaning.{Profile, Reference, tapsOf, namesOf, extrasOf, sum}
 use Rattle.reference.specs.Layout.{layoutProfile}
-use Rattle.reference.specs.Tables.{Used, placed, gathered, bodyAt, tapsAt, namesAt, extrasAt, view}
+use Rattle.reference.specs.Used.{Used}
+use Rattle.reference.specs.Placed.{placed, gathered, bodyAt, tapsAt, namesAt, extrasAt, view, profilesAt}
 use Rattle.table.specs.declared.Counts.{Counts}
 use Rattle.table.specs.Region.{stored, rows}
 use Rattle.table.specs.Flat.{profileRegion, tapRegion, nameRegion, extraRegion, bodyNumbers, tapNumbers, nameNumbers, extraNumbers, frontNumbers}
@@ -38,8 +39,8 @@ noCounts = record { taps = 0; names = 0; extras = 0 }
 -- a reference, read into the table t: its entries, then the six numbers at the front
 abbrev pub referenceFiled : List ℕ → Reference → List ℕ
 referenceFiled t m =
-    splice (profilesFiled (length (m .typeId) + 8) t 0 noCounts (m .profiles)) 0
-    (frontNumbers (view 4 (m .typeId)) (length (m .profiles)) (total tapsOf (m .profiles)) (total namesOf (m .profiles)) (total extrasOf (m .profiles)))
+    splice (profilesFiled (profilesAt m) t 0 noCounts (m .profiles)) 0
+    (frontNumbers (view 4 (m .typeId)) (length (m .profiles)) (sum tapsOf (m .profiles)) (sum namesOf (m .profiles)) (sum extrasOf (m .profiles)))
 
 -- Of a table that held t, into which the entries u were filed, and that then held e: the six numbers at the front are the type id's view and how many
 -- entries there are of each sort; the first entries of each region have the numbers of u's; and every other entry has the numbers that it had before.

@@ -17,7 +17,7 @@ use Rattle.reference.specs.declared.TaggedProfile.{TaggedProfile}
 use Rattle.reference.specs.declared.TaggedProfile.the-variants as Sort
 use Rattle.reference.specs.declared.Profile.{Profile}
 use Rattle.reference.specs.declared.Tables.{Tables}
-use Rattle.reference.specs.Reader.{pick}
+use Rattle.reference.specs.Steps.{pick}
 use Rattle.table.specs.Region.{Region, chunks}
 
 -- ---- the numbers of each sort of entry

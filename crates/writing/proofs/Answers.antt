@@ -12,8 +12,9 @@ use Rattle.reference.specs.declared.Tables.{Tables}
 use Rattle.reference.specs.declared.Check.{Check}
 use Rattle.reference.specs.declared.Check.the-variants.{Pass, Refuse}
 use Rattle.reference.specs.declared.Answer.the-variants.{Count, Refused}
-use Rattle.reference.specs.Tables.{usedOf, ownedOf}
-use Rattle.reference.specs.Reader.{refusal}
+use Rattle.reference.specs.Tabled.{usedOf}
+use Rattle.reference.specs.Used.{ownedOf}
+use Rattle.reference.specs.Refusals.{refusal}
 use Rattle.reference.specs.Checks.{both, each}
 use Rattle.reference.specs.Writer.{sizeOf, imageOf, countsCheck, roomCheck, typeCheck, ownShort, measureCheck, writeCheck, told, left, written, leaves}
 use Rattle.reference.proofs.Checks.{stop, go, passes, le-test, eq-test, lt-test, ne-test}

@@ -13,9 +13,11 @@ use Rattle.reference.specs.declared.TaggedProfile.{TaggedProfile}
 use Rattle.reference.specs.declared.TaggedProfile.the-variants as Sort
 use Rattle.reference.specs.declared.Tables.{Tables}
 use Rattle.reference.specs.declared.Check.the-variants.{Pass}
-use Rattle.reference.specs.Tables.{Used, Own, usedOf, ownedOf}
-use Rattle.reference.specs.Checks.{each, sum}
-use Rattle.reference.specs.Reader.{refusal}
+use Rattle.reference.specs.Used.{Used, Own, ownedOf}
+use Rattle.reference.specs.Tabled.{usedOf}
+use Rattle.reference.specs.Checks.{each}
+use Rattle.reference.specs.Meaning.{sum}
+use Rattle.reference.specs.Refusals.{refusal}
 use Rattle.reference.specs.Writer.{tapSize, extraSize, locationSize, binderSize, bodySize, ownSize, sizeOf, bodyViews, tapViews, nameViews, extraViews, viewsCheck, shortCheck, extraShort, bodyShort, ownShort}
 use Rattle.reference.proofs.Checks.{passes, passed, test-le, le-test, each-cons, cons-each, each-nil}
 use Rattle.reference.proofs.Sizes.{ownViews, views-own}

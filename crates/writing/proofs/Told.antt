@@ -8,7 +8,7 @@ use Rattle.reference.specs.declared.View.{View}
 use Rattle.reference.specs.declared.ObjectLocation.{ObjectLocation}
 use Rattle.reference.specs.declared.NsapAddress.{NsapAddress}
 use Rattle.reference.specs.declared.TaggedProfile.the-variants as Sort
-use Rattle.reference.specs.Tables.{tapsIn, namesIn, extrasIn, bodyView}
+use Rattle.reference.specs.Used.{tapsIn, namesIn, extrasIn, bodyView}
 use Rattle.table.specs.declared.Counts.{Counts}
 use Rattle.table.specs.Flat.{bodyFrom, locationFrom, addressFrom}
 use Rattle.entries.proofs.Sorts.{body-biop, body-lite, body-opaque}

@@ -8,7 +8,8 @@ use lib.ListN.{length, take, getD}
 use lib.Seq.{getD-take, length-take-le}
 use Rattle.reference.specs.declared.TaggedProfile.{TaggedProfile}
 use Rattle.reference.specs.declared.Profile.{Profile}
-use Rattle.reference.specs.Tables.{Used, Own, ownedOf, tapsIn, namesIn, extrasIn, noProfile}
+use Rattle.reference.specs.Used.{Used, Own, ownedOf, tapsIn, namesIn, extrasIn}
+use Rattle.reference.specs.Tabled.{noProfile}
 use Rattle.reference.specs.Writer.{counted}
 use Rattle.reference.proofs.Walk.{some, some-used, ahead, ahead-open, ahead-end, counted-open, counted-within}
 use Rattle.reference.proofs.Formed.{Passing, length-owned}

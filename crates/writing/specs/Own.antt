@@ -2,7 +2,7 @@
 use Prim.Native.Nat.{ℕ, _+_, _≤_}
 use mathlib.Core.List.{List}
 use Rattle.reference.specs.declared.TaggedProfile.{TaggedProfile}
-use Rattle.reference.specs.Tables.{Own, tapsIn, namesIn, extrasIn}
+use Rattle.reference.specs.Used.{Own, tapsIn, namesIn, extrasIn}
 use Rattle.table.specs.declared.Counts.{Counts}
 use Rattle.table.specs.Flat.{bodyOfTable}
 use Rattle.profiles.specs.Own.{tapsOn, namesOn, extrasOn}

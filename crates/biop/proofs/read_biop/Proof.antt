@@ -6,12 +6,14 @@ use denote.Ref.{now}
 use lib.ListN.{length}
 use Rattle.octets.specs.Octets.{Octets}
 use Rattle.reference.specs.Meaning.{Biop, biop}
-use Rattle.reference.specs.Reader.{Answer, ok, seen, followed, readBiop}
+use Rattle.reference.specs.Steps.{Answer, ok, seen, followed}
+use Rattle.reference.specs.Reader.{readBiop}
+use Rattle.reference.specs.Heads.{BiopHead, readBiopHead}
 use Rattle.reference.proofs.Steps.{seen-ok, seen-no}
 use Rattle.components.specs.Told.{Filled, bodyKept}
 use Rattle.components.proofs.Moves.{octets-of-slice}
 use Rattle.biop.specs.declared.Head.{Head}
-use Rattle.biop.specs.Told.{headAt, headTold, Headed, readBiopHead, biopRest}
+use Rattle.biop.specs.Told.{headAt, headTold, biopRest}
 use Rattle.biop.proofs.Beginning.{left, biop-left, head-known}
 use Rattle.biop.proofs.Rest.{rest-filed}
 use borrow.Author.Needs.{needs}
@@ -26,7 +28,7 @@ abbrev next : tie.After-head → ℕ
 next k = k .head .given .0 .1 .0
 
 head-read : (k : tie.After-head)
-    → (h : Headed) × (readBiopHead (now (entry k .args .d)) 0 (length (now (entry k .args .d))) ≡ ok h (next k)) × (k .head .given .0 .0 ≡ headAt (entry k .args .at + 8) h)
+    → (h : BiopHead) × (readBiopHead (now (entry k .args .d)) 0 (length (now (entry k .args .d))) ≡ ok h (next k)) × (k .head .given .0 .0 ≡ headAt (entry k .args .at + 8) h)
 head-read k =
     let a = entry k .args in
     seen-ok (headAt (a .at + 8)) (readBiopHead (a .d .now) 0 (length (a .d .now))) (sym (k .before .before .read-biop-head .ensures) ∙ ap headTold (k .head .given .1))
@@ -38,11 +40,11 @@ octs k = octets-of-slice (now (entry k .args .d)) (λ x. omega (arith, k .before
 abbrev keeps : tie.Start → Answer Biop → Answer Filled
 keeps c x = bodyKept (c .args .at) (now (c .args .table)) (c .args .i) (c .args .used) (seen (λ b. biop b) x)
 
-body-read : (c : tie.Start) {x : Answer Headed} → readBiopHead (now (c .args .d)) 0 (length (now (c .args .d))) ≡ x
+body-read : (c : tie.Start) {x : Answer BiopHead} → readBiopHead (now (c .args .d)) 0 (length (now (c .args .d))) ≡ x
     → keeps c (followed x (left (now (c .args .d)) (length (now (c .args .d))))) ≡ keeps c (readBiop (now (c .args .d)) 0 (length (now (c .args .d))))
 body-read c e =
     let d = c .args .d .now in
-    ap (λ (y : Answer Biop). keeps c y) (sym (biop-left d (length d) ∙ ap (λ (y : Answer Headed). followed y (left d (length d))) e))
+    ap (λ (y : Answer Biop). keeps c y) (sym (biop-left d (length d) ∙ ap (λ (y : Answer BiopHead). followed y (left d (length d))) e))
 
 add-base : tie.Need-add-base
 add-base c = search needs

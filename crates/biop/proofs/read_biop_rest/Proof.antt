@@ -8,9 +8,11 @@ use lib.ListN.{length}
 use Rattle.octets.specs.Octets.{splice}
 use Rattle.reference.specs.declared.TaggedProfile.the-variants as Sort
 use Rattle.reference.specs.Layout.{layoutTap, layoutExtra}
-use Rattle.reference.specs.Reader.{ok, readTap, readExtra, many}
-use Rattle.reference.specs.Tables.{placed, tapAt, extraAt}
+use Rattle.reference.specs.Steps.{ok, many}
+use Rattle.reference.specs.Reader.{readTap, readExtra}
+use Rattle.reference.specs.Placed.{placed, tapAt, extraAt}
 use Rattle.reference.proofs.Steps.{ending-at}
+use Rattle.reference.specs.Places.{place-binder-leftover, place-biop-extra, place-biop-leftover}
 use Rattle.table.specs.Region.{stored}
 use Rattle.table.specs.Flat.{bodyNumbers, tapRegion, extraRegion, profileRegion}
 use Rattle.table.proofs.Stored.{stored-in, stored-out}
@@ -34,7 +36,7 @@ read-extras-requires c κs =
     let b = c .before .before .before .before .before .before in
     let a = b .before .before .before .before .before .args in
     let (ts, e, s) = told-ok (b .read-taps .ensures) (c .before .before .after .given .1) in
-    let p : c .before .before .after .given .0 .0 ≡ a .head .stop = ending-at 12 (many (a .head .taps) readTap) (a .d .now) (a .next) (a .head .stop) e in
+    let p : c .before .before .after .given .0 .0 ≡ a .head .stop = ending-at place-binder-leftover (many (a .head .taps) readTap) (a .d .now) (a .next) (a .head .stop) e in
     (omega (arith, p), omega arith, omega arith, search needs)
 
 enum-known-why-2 : tie.Need-enum-known-why-2
@@ -94,7 +96,7 @@ returns-3 c =
     let mid = m .after .given .0 .0 in
     let (ts, e, s) = told-ok (b .read-taps .ensures) (m .after .given .1) in
     let (es, e′, s′) = told-ok (q .read-extras .ensures) (c .before .before .last .given .1) in
-    let z = sym (ending-at 14 (many (a .head .extras) (readExtra 13)) (a .d .now) mid (length (a .d .now)) e′) in
+    let z = sym (ending-at place-biop-leftover (many (a .head .extras) (readExtra place-biop-extra)) (a .d .now) mid (length (a .d .now)) e′) in
     let x = Sort.Biop (a .head .location) (a .head .taps) (a .head .extras) in
     let t₁ = stored tapRegion (a .table .now) (a .used .taps) (placed tapAt layoutTap (a .base + a .next) ts) in
     let t₂ = stored extraRegion t₁ (a .used .extras) (placed extraAt layoutExtra (a .base + mid) es) in

@@ -3,8 +3,8 @@ use Prim.Native.Nat.{ℕ, _+_}
 use mathlib.Core.Path.{sym, ap, _∙_}
 use native.Mathlib.Omega.{arith}
 use lib.ListN.{length}
-use Rattle.reference.specs.Reader.{ok, refused}
-use Rattle.biop.proofs.Header.{part-cut, part-wrong, part-over, part-read}
+use Rattle.reference.specs.Steps.{ok, refused}
+use Rattle.reference.proofs.Heads.{part-cut, part-wrong, part-over, part-read}
 use borrow.Author.Needs.{needs}
 use Rattle.biop.proofs.read_component.Statement.{statement}
 use Rattle.biop.proofs.read_component.Tie as tie
@@ -18,7 +18,7 @@ cut-requires c κs = search needs
 returns : tie.Need-returns
 returns c =
     let a = c .before .before .before .args in
-    ap refused (c .cut .ensures) ∙ sym (part-cut (a .tag) (a .header) (a .spot) (a .d .now) (a .pos) (length (a .d .now)) (omega arith))
+    ap refused (c .cut .ensures) ∙ sym (part-cut 1 (a .tag) (a .header) (a .spot) (a .d .now) (a .pos) (length (a .d .now)) (omega arith))
 
 be32-requires : tie.Need-be32-requires
 be32-requires c κs = search needs
@@ -31,7 +31,7 @@ returns-2 c =
     let o = c .before .before in
     let a = o .before .before .before .args in
     ap refused (c .wrong .ensures)
-    ∙ sym (part-wrong (a .tag) (a .header) (a .spot) (a .d .now) (a .pos) (length (a .d .now)) (omega arith) (λ e. c .before .if2 .taken (o .be32 .ensures ∙ e)))
+    ∙ sym (part-wrong 1 (a .tag) (a .header) (a .spot) (a .d .now) (a .pos) (length (a .d .now)) (omega arith) (λ e. c .before .if2 .taken (o .be32 .ensures ∙ e)))
 
 add-octet : tie.Need-add-octet
 add-octet c = search needs
@@ -52,7 +52,7 @@ returns-3 c =
     let a = o .before .before .before .args in
     rw (c .too-long .ensures, n .octet .ensures)
     (sym
-    (part-over (a .tag) (a .header) (a .spot) (a .d .now) (a .pos) (length (a .d .now)) (omega arith) (sym (o .be32 .ensures) ∙ n .before .if2 .left) (omega (arith, n .octet .ensures))))
+    (part-over 1 (a .tag) (a .header) (a .spot) (a .d .now) (a .pos) (length (a .d .now)) (omega arith) (sym (o .be32 .ensures) ∙ n .before .if2 .left) (omega (arith, n .octet .ensures))))
 
 add-t14 : tie.Need-add-t14
 add-t14 c = search needs
@@ -64,7 +64,7 @@ returns-4 c =
     let a = o .before .before .before .args in
     ap (λ (x : ℕ). ok (a .pos + 5 + x) (a .pos + 5)) (n .octet .ensures)
     ∙ sym
-    (part-read (a .tag) (a .header) (a .spot) (a .d .now) (a .pos) (length (a .d .now)) (omega arith) (sym (o .be32 .ensures) ∙ n .before .if2 .left) (omega (arith, n .octet .ensures)))
+    (part-read 1 (a .tag) (a .header) (a .spot) (a .d .now) (a .pos) (length (a .d .now)) (omega arith) (sym (o .be32 .ensures) ∙ n .before .if2 .left) (omega (arith, n .octet .ensures)))
 
 pub read-component-spec : {M : Type 1} → statement M
 read-component-spec =

@@ -4,15 +4,21 @@ use mathlib.Core.Path.{_≡_, sym, ap, _∙_}
 use native.Mathlib.Omega.{arith}
 use denote.Ref.{now}
 use lib.ListN.{length}
+use mathlib.Core.List.{List}
+use Rattle.reference.specs.declared.Refusal.{Refusal}
 use Rattle.reference.specs.declared.ObjectLocation.{ObjectLocation}
 use Rattle.reference.specs.Meaning.{Location}
 use Rattle.reference.specs.Layout.{tag-location}
-use Rattle.reference.specs.Reader.{Answer, ok, refused, seen, readLocation}
+use Rattle.reference.specs.Steps.{Answer, ok, refused, seen, ending}
+use Rattle.reference.specs.Reader.{readLocation, readObjectLocation}
+use Rattle.reference.specs.Heads.{readPart}
+use Rattle.reference.specs.Placed.{locationAt}
 use Rattle.reference.proofs.Parts.{location-reads}
-use Rattle.reference.proofs.Steps.{seen-ok, seen-no}
+use Rattle.reference.proofs.Steps.{ending-no, ending-left, ending-ok, seen-ok, seen-no}
 use Rattle.components.proofs.Moves.{octets-of-slice, moved}
-use Rattle.biop.specs.Told.{readPart, partTold, locationAt, locationTold}
-use Rattle.biop.proofs.Header.{part-known, header-no, contents-no, contents-left, contents-ok}
+use Rattle.biop.specs.Told.{partTold, locationTold}
+use Rattle.reference.proofs.Heads.{part-known, component-no, component-data}
+use Rattle.reference.specs.Places.{place-location-header, place-location-leftover, place-location-tag}
 use borrow.Author.Needs.{needs}
 use Rattle.biop.proofs.read_object_location.Statement.{statement}
 use Rattle.biop.proofs.read_object_location.Tie as tie
@@ -27,11 +33,11 @@ start k = k .«data» .given .0 .0
 abbrev stop : tie.After-data → ℕ
 stop k = k .«data» .given .0 .1 .0
 
-header-read : (k : tie.After-data) → readPart tag-location 6 29 (now (entry k .args .d)) 2 (length (now (entry k .args .d))) ≡ ok (stop k) (start k)
+header-read : (k : tie.After-data) → readPart 1 tag-location place-location-header place-location-tag (now (entry k .args .d)) 2 (length (now (entry k .args .d))) ≡ ok (stop k) (start k)
 header-read k = sym (k .before .before .read-component .ensures) ∙ ap partTold (k .«data» .given .1)
 
 header-known : (k : tie.After-data) → (start k ≡ 7) × (start k ≤ stop k) × (stop k ≤ length (now (entry k .args .d)))
-header-known k = part-known tag-location 6 29 (now (entry k .args .d)) 2 (length (now (entry k .args .d))) (header-read k)
+header-known k = part-known 1 tag-location place-location-header place-location-tag (now (entry k .args .d)) 2 (length (now (entry k .args .d))) (header-read k)
 
 -- at the location: its data, and that the fields were read
 abbrev contents : tie.After-location → tie.After-data
@@ -66,8 +72,8 @@ enum-known-why-2 c = search needs
 enum-known-location : tie.Need-enum-known-location
 enum-known-location c = search needs
 
-sub-left-over : tie.Need-sub-left-over
-sub-left-over c =
+left-over-requires : tie.Need-left-over-requires
+left-over-requires c κs =
     let k = contents (c .before .before) in
     let d = entry k .args .d .now in
     let (s, f, w) = header-known k in
@@ -75,8 +81,14 @@ sub-left-over c =
     let o = octets-of-slice d (λ x. omega (arith, k .before .before .before .shared-slice-known .given x)) in
     omega (arith, moved location-reads d (start k) (stop k) o f w q .0)
 
-left-over-requires : tie.Need-left-over-requires
-left-over-requires c κs = search needs
+-- the component, once its header was read
+whole : (k : tie.After-data) → readObjectLocation (now (entry k .args .d)) 2 (length (now (entry k .args .d))) ≡ ending place-location-leftover readLocation (now (entry k .args .d)) (start k) (stop k)
+unfolding readObjectLocation
+whole k = component-data 1 tag-location place-location-header place-location-tag (now (entry k .args .d)) 2 (length (now (entry k .args .d))) (ending place-location-leftover readLocation) (header-read k)
+
+unread : (d : List ℕ) {x : Refusal} → readPart 1 tag-location place-location-header place-location-tag d 2 (length d) ≡ refused x → readObjectLocation d 2 (length d) ≡ refused x
+unfolding readObjectLocation
+unread d e = component-no 1 tag-location place-location-header place-location-tag d 2 (length d) (ending place-location-leftover readLocation) e
 
 returns : tie.Need-returns
 returns c =
@@ -85,14 +97,14 @@ returns c =
     let (l, q, v) = fields-read (c .before .before .before) in
     ap refused (c .left-over .ensures)
     ∙ ap (λ (x : Answer Location). seen (locationAt (a .base + 7)) x)
-    (sym (contents-left tag-location 6 29 8 readLocation (a .d .now) 2 (length (a .d .now)) (header-read k) q (c .before .if1 .taken)))
+    (sym (whole k ∙ ending-left (a .d .now) (start k) (stop k) 8 readLocation q (c .before .if1 .taken)))
 
 returns-2 : tie.Need-returns-2
 returns-2 c =
     let g = c .before .before .before in
     let a = g .before .before .args in
     let e = sym (g .read-component .ensures) ∙ ap partTold (c .before .why .given .1) in
-    ap (λ (x : Answer Location). seen (locationAt (a .base + 7)) x) (sym (header-no tag-location 6 29 8 readLocation (a .d .now) 2 (length (a .d .now)) e))
+    ap (λ (x : Answer Location). seen (locationAt (a .base + 7)) x) (sym (unread (a .d .now) e))
 
 returns-3 : tie.Need-returns-3
 returns-3 c =
@@ -100,7 +112,7 @@ returns-3 c =
     let k = r .before .before in
     let a = entry k .args in
     let q = seen-no (locationAt (a .base + start k)) (readLocation (a .d .now) (start k) (stop k)) (sym (r .read-location .ensures) ∙ ap locationTold (c .before .why2 .given .1)) in
-    ap (λ (x : Answer Location). seen (locationAt (a .base + 7)) x) (sym (contents-no tag-location 6 29 8 readLocation (a .d .now) 2 (length (a .d .now)) (header-read k) q))
+    ap (λ (x : Answer Location). seen (locationAt (a .base + 7)) x) (sym (whole k ∙ ending-no (a .d .now) (start k) (stop k) 8 readLocation q))
 
 returns-4 : tie.Need-returns-4
 returns-4 c =
@@ -111,7 +123,7 @@ returns-4 c =
     ap (λ (x : ObjectLocation). ok x (next m)) v
     ∙ ap (λ (x : ℕ). ok (locationAt (a .base + x) l) (next m)) s
     ∙ ap (λ (x : Answer Location). seen (locationAt (a .base + 7)) x)
-    (sym (contents-ok tag-location 6 29 8 readLocation (a .d .now) 2 (length (a .d .now)) (header-read (contents m)) q (c .if1 .left)))
+    (sym (whole (contents m) ∙ ending-ok (a .d .now) (start (contents m)) (stop (contents m)) 8 readLocation (q ∙ ap (ok l) (c .if1 .left)) ∙ ap (ok l) (sym (c .if1 .left))))
 
 pub read-object-location-spec : {M : Type 1} → statement M
 read-object-location-spec =
@@ -123,7 +135,6 @@ read-object-location-spec =
     read-location-requires
     enum-known-why-2
     enum-known-location
-    sub-left-over
     left-over-requires
     returns
     returns-2

@@ -8,10 +8,12 @@ use borrow.Author.Needs.{needs}
 use Rattle.octets.specs.Octets.{splice}
 use Rattle.reference.specs.declared.Tap.{Tap as TapEntry}
 use Rattle.reference.specs.Layout.{layoutTap}
-use Rattle.reference.specs.Reader.{ok, refused, readTap}
-use Rattle.reference.specs.Tables.{tapAt}
+use Rattle.reference.specs.Steps.{ok, refused}
+use Rattle.reference.specs.Reader.{readTap}
+use Rattle.reference.specs.Placed.{tapAt}
 use Rattle.reference.proofs.Parts.{tap-reads}
 use Rattle.reference.proofs.Steps.{seen-ok, seen-no}
+use Rattle.reference.specs.Places.{place-binder-leftover}
 use Rattle.table.specs.Region.{stored}
 use Rattle.table.specs.Flat.{tapRegion, tapNumbers}
 use Rattle.table.proofs.Stored.{stored-in, stored-out}
@@ -46,7 +48,7 @@ returns c =
     let l = b .before .before .loop in
     let a = b .before .before .before .before .before .args in
     let e = seen-no (tapAt (a .base + l .cur)) (readTap (a .d .now) (l .cur) (a .end)) (sym (b .read-tap .ensures) ∙ ap tapTold (c .before .why .given .1)) in
-    record { told = stop-ending (l .inv .1) 12 (omega arith) e }
+    record { told = stop-ending (l .inv .1) place-binder-leftover (omega arith) e }
 
 enum-known-tap : tie.Need-enum-known-tap Inv-loop μ-loop
 enum-known-tap c = search needs
@@ -78,23 +80,20 @@ loop-again c =
     (λ y. stored-out tapRegion (l .table) (a .first + l .i) (tapAt (a .base + l .cur) t) (omega arith) (y .1)) (c .if1 .came) in
     (omega (arith, r, n), turn (l .inv .1) (omega arith) (omega arith) (e ∙ ap (ok t) (sym n)) (n ∙ s) p)
 
-sub-left-over : tie.Need-sub-left-over Inv-loop μ-loop
-sub-left-over c = omega arith
-
 left-over-requires : tie.Need-left-over-requires Inv-loop μ-loop
-left-over-requires c κs = search needs
+left-over-requires c κs = omega arith
 
 same-length-2 : tie.Need-same-length-2 Inv-loop μ-loop
 same-length-2 c = c .before .before .before .loop .inv .1 .long
 
 returns-2 : tie.Need-returns-2 Inv-loop μ-loop
-returns-2 c = record { told = ap refused (c .left-over .ensures) ∙ left-ending (c .before .before .before .loop .inv .1) 12 (omega arith) (c .before .if2 .taken) }
+returns-2 c = record { told = ap refused (c .left-over .ensures) ∙ left-ending (c .before .before .before .loop .inv .1) place-binder-leftover (omega arith) (c .before .if2 .taken) }
 
 same-length-3 : tie.Need-same-length-3 Inv-loop μ-loop
 same-length-3 c = c .before .before .loop .inv .1 .long
 
 returns-3 : tie.Need-returns-3 Inv-loop μ-loop
-returns-3 c = record { told = finish-ending (c .before .before .loop .inv .1) 12 (omega arith) (omega arith) }
+returns-3 c = record { told = finish-ending (c .before .before .loop .inv .1) place-binder-leftover (omega arith) (omega arith) }
 
 pub read-taps-spec : {M : Type 1} → statement M
 read-taps-spec =
@@ -113,7 +112,6 @@ read-taps-spec =
     add-i
     loop-less
     loop-again
-    sub-left-over
     left-over-requires
     same-length-2
     returns-2

@@ -2,7 +2,7 @@
 use Prim.Native.Nat.{_-_}
 use mathlib.Core.Path.{refl, sym, _∙_}
 use native.Mathlib.Omega.{arith}
-use Rattle.reference.specs.Tables.{noExtra}
+use Rattle.reference.specs.Tabled.{noExtra}
 use Rattle.table.specs.Flat.{tablesFrom}
 use Rattle.table.proofs.Entries.{extras-length, extra-entry}
 use Rattle.table.proofs.Replaced.{Replaced, begin, turn, finish}

@@ -2,7 +2,7 @@
 use Prim.Native.Nat.{_-_}
 use mathlib.Core.Path.{refl, sym, _∙_}
 use native.Mathlib.Omega.{arith}
-use Rattle.reference.specs.Tables.{noProfile}
+use Rattle.reference.specs.Tabled.{noProfile}
 use Rattle.table.specs.Flat.{tablesFrom}
 use Rattle.table.proofs.Entries.{profiles-length, profile-entry}
 use Rattle.table.proofs.Replaced.{Replaced, begin, turn, finish}

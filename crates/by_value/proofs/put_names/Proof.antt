@@ -4,7 +4,7 @@ use Prim.Native.Nat.{_-_}
 use mathlib.Core.Path.{_≡_}
 use native.Mathlib.Omega.{arith}
 use lib.ListN.{length}
-use Rattle.reference.specs.Tables.{noName}
+use Rattle.reference.specs.Tabled.{noName}
 use Rattle.table.specs.Flat.{nameRegion}
 use Rattle.by_value.proofs.Storing.{Storing, begin, turn, finish}
 use Rattle.by_value.proofs.put_names.Statement.{statement}

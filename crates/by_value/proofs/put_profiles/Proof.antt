@@ -6,7 +6,7 @@ use native.Mathlib.Omega.{arith}
 use lib.ListN.{length, length-map, List·getD-map}
 use Rattle.octets.specs.Octets.{splice}
 use Rattle.reference.specs.declared.TaggedProfile.{TaggedProfile}
-use Rattle.reference.specs.Tables.{noProfile}
+use Rattle.reference.specs.Tabled.{noProfile}
 use Rattle.table.specs.Flat.{bodyNumbers, profileRegion}
 use Rattle.by_value.specs.Bodies.{bodies}
 use Rattle.by_value.proofs.Storing.{Storing, begin, turn, finish}

@@ -2,7 +2,7 @@
 use Prim.Native.Nat.{_-_}
 use mathlib.Core.Path.{refl, sym, _∙_}
 use native.Mathlib.Omega.{arith}
-use Rattle.reference.specs.Tables.{noTap}
+use Rattle.reference.specs.Tabled.{noTap}
 use Rattle.table.specs.Flat.{tablesFrom}
 use Rattle.table.proofs.Entries.{taps-length, tap-entry}
 use Rattle.table.proofs.Replaced.{Replaced, begin, turn, finish}

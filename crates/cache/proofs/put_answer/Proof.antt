@@ -1,6 +1,5 @@
 -- `cache::put_answer` meets its contract. What the answer and the lent table say is what the reader answered. Assumes nothing.
 use native.Mathlib.Omega.{arith}
-use denote.Ref.{now}
 use Rattle.text.proofs.Texts.{loose}
 use Rattle.cache.proofs.Accepted.{type-id-at, view-inside, row-refused, row-found}
 use borrow.Author.Needs.{needs}
@@ -25,10 +24,7 @@ slice-read-start c = search needs
 cast-start : tie.Need-cast-start
 cast-start c =
     let e = c .before in
-    let r = e .before .before .before .before in
-    let a = r .before .before .before .before .before .args in
-    let h = type-id-at (now (a .s)) (now (a .table)) (r .read-whole-into .last .1 .0) (r .read-whole-into .result) (r .read-whole-into .ensures) (e .enum-told .given .1) in
-    omega (arith, h)
+    omega (arith, type-id-at _ (e .before .before .before .before .read-whole-into .ensures) (e .enum-told .given .1))
 
 slice-read-stop : tie.Need-slice-read-stop
 slice-read-stop c = search needs
@@ -36,18 +32,12 @@ slice-read-stop c = search needs
 cast-stop : tie.Need-cast-stop
 cast-stop c =
     let e = c .before .before in
-    let r = e .before .before .before .before in
-    let a = r .before .before .before .before .before .args in
-    let h = view-inside (now (a .s)) (now (a .table)) (r .read-whole-into .last .1 .0) (r .read-whole-into .result) (r .read-whole-into .ensures) (e .enum-told .given .1) in
-    omega (arith, h)
+    omega (arith, view-inside _ (e .before .before .before .before .read-whole-into .ensures) (e .enum-told .given .1))
 
 add-stop : tie.Need-add-stop
 add-stop c =
     let e = c .before .before in
-    let r = e .before .before .before .before in
-    let a = r .before .before .before .before .before .args in
-    let h = view-inside (now (a .s)) (now (a .table)) (r .read-whole-into .last .1 .0) (r .read-whole-into .result) (r .read-whole-into .ensures) (e .enum-told .given .1) in
-    omega (arith, h)
+    omega (arith, view-inside _ (e .before .before .before .before .read-whole-into .ensures) (e .enum-told .given .1))
 
 sub-object-kind : tie.Need-sub-object-kind
 sub-object-kind c = search needs
@@ -58,10 +48,7 @@ part-object-kind-start c = search needs
 part-object-kind-end : tie.Need-part-object-kind-end
 part-object-kind-end c =
     let e = c .before .before in
-    let r = e .before .before .before .before in
-    let a = r .before .before .before .before .before .args in
-    let h = view-inside (now (a .s)) (now (a .table)) (r .read-whole-into .last .1 .0) (r .read-whole-into .result) (r .read-whole-into .ensures) (e .enum-told .given .1) in
-    omega (arith, h)
+    omega (arith, view-inside _ (e .before .before .before .before .read-whole-into .ensures) (e .enum-told .given .1))
 
 object-kind-requires : tie.Need-object-kind-requires
 object-kind-requires c κs = search needs
@@ -83,8 +70,7 @@ returns c =
     let q = c .before .before in
     let w = q .before .before .before in
     let r = w .before .before .before .before in
-    let a = r .before .before .before .before .before .args in
-    loose (q .put-refused .ensures) 31 (omega arith) (row-refused (now (a .s)) (now (a .table)) (r .read-whole-into .last .1 .0) (r .read-whole-into .result) (r .read-whole-into .ensures) (w .why .given .1))
+    loose (q .put-refused .ensures) 31 (omega arith) (row-refused _ (r .read-whole-into .ensures) (w .why .given .1))
 
 same-length-3 : tie.Need-same-length-3
 same-length-3 c = search needs
@@ -98,8 +84,7 @@ returns-2 c =
     let o = q .before .before .before in
     let e = o .before .before .before .before in
     let r = e .before .before .before .before in
-    let a = r .before .before .before .before .before .args in
-    loose (q .put-found .ensures) 31 (omega arith) (row-found (now (a .s)) (now (a .table)) (r .read-whole-into .last .1 .0) (r .read-whole-into .result) (r .read-whole-into .ensures) (e .enum-told .given .1) (o .object-kind .ensures))
+    loose (q .put-found .ensures) 31 (omega arith) (row-found _ (r .read-whole-into .ensures) (e .enum-told .given .1) (o .object-kind .ensures))
 
 pub put-answer-spec : {M : Type 1} → statement M
 put-answer-spec =

@@ -3,8 +3,8 @@ use Prim.Native.Nat.{ℕ}
 use mathlib.Core.Path.{sym, ap, _∙_}
 use native.Mathlib.Omega.{arith}
 use lib.ListN.{length}
-use Rattle.reference.specs.Reader.{ok, refused}
-use Rattle.components.proofs.Fixed.{fixed-cut, fixed-order, fixed-few, fixed-read}
+use Rattle.reference.specs.Steps.{ok, refused}
+use Rattle.reference.proofs.Heads.{fixed-cut, fixed-order, fixed-few, fixed-read}
 use borrow.Author.Needs.{needs}
 use Rattle.components.proofs.read_fixed.Statement.{statement}
 use Rattle.components.proofs.read_fixed.Tie as tie
@@ -15,7 +15,7 @@ cut-requires c κs = search needs
 returns : tie.Need-returns
 returns c =
     let a = c .before .before .before .args in
-    ap refused (c .cut .ensures) ∙ sym (fixed-cut (a .least) (a .place) (a .order) (a .range) (a .d .now) (length (a .d .now)) (omega arith))
+    ap refused (c .cut .ensures) ∙ sym (fixed-cut (a .least) (a .place) (a .order) (a .range) (a .d .now) 0 (length (a .d .now)) (omega arith))
 
 octet-requires : tie.Need-octet-requires
 octet-requires c κs = search needs
@@ -28,7 +28,7 @@ returns-2 c =
     let o = c .before .before in
     let a = o .before .before .before .args in
     ap refused (c .wrong .ensures)
-    ∙ sym (fixed-order (a .least) (a .place) (a .order) (a .range) (a .d .now) (length (a .d .now)) (omega arith) (λ e. c .before .if2 .taken (o .octet .ensures ∙ e)))
+    ∙ sym (fixed-order (a .least) (a .place) (a .order) (a .range) (a .d .now) 0 (length (a .d .now)) (omega arith) (λ e. c .before .if2 .taken (o .octet .ensures ∙ e)))
 
 octet-requires-2 : tie.Need-octet-requires-2
 octet-requires-2 c κs = search needs
@@ -45,7 +45,7 @@ returns-3 c =
     let o = n .before .before in
     let a = o .before .before .before .args in
     ap refused (c .wrong2 .ensures)
-    ∙ sym (fixed-few (a .least) (a .place) (a .order) (a .range) (a .d .now) (length (a .d .now)) (omega arith) (sym (o .octet .ensures) ∙ n .before .if2 .left) (omega (arith, n .octet2 .ensures)))
+    ∙ sym (fixed-few (a .least) (a .place) (a .order) (a .range) (a .d .now) 0 (length (a .d .now)) (omega arith) (sym (o .octet .ensures) ∙ n .before .if2 .left) (omega (arith, n .octet2 .ensures)))
 
 returns-4 : tie.Need-returns-4
 returns-4 c =
@@ -53,7 +53,7 @@ returns-4 c =
     let o = n .before .before in
     let a = o .before .before .before .args in
     ap (λ (x : ℕ). ok x 2) (n .octet2 .ensures)
-    ∙ sym (fixed-read (a .least) (a .place) (a .order) (a .range) (a .d .now) (length (a .d .now)) (omega arith) (sym (o .octet .ensures) ∙ n .before .if2 .left) (omega (arith, n .octet2 .ensures)))
+    ∙ sym (fixed-read (a .least) (a .place) (a .order) (a .range) (a .d .now) 0 (length (a .d .now)) (omega arith) (sym (o .octet .ensures) ∙ n .before .if2 .left) (omega (arith, n .octet2 .ensures)))
 
 pub read-fixed-spec : {M : Type 1} → statement M
 read-fixed-spec =

@@ -3,7 +3,7 @@ use borrow.Author.Needs.{needs}
 use Prim.Native.Nat.{_+_, _*_}
 use mathlib.Core.Path.{sym, ap, _∙_}
 use native.Mathlib.Omega.{arith}
-use Rattle.reference.specs.Tables.{namesIn}
+use Rattle.reference.specs.Used.{namesIn}
 use Rattle.octets.specs.Octets.{part}
 use Rattle.entries.proofs.Sorts.{body-lite, no-names}
 use Rattle.entries.proofs.Numbers.{number}

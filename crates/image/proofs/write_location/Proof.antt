@@ -4,7 +4,7 @@ use mathlib.Core.List.{append-assoc}
 use mathlib.Core.Path.{refl}
 use native.Mathlib.Omega.{arith}
 use Rattle.octets.proofs.Put.{then, same}
-use Rattle.reference.specs.Tables.{locationOf}
+use Rattle.reference.specs.Contents.{locationOf}
 use Rattle.reference.specs.Layout.{layoutLocation, tag-location}
 use Rattle.image.proofs.Laid.{headed}
 use Rattle.image.proofs.write_location.Statement.{statement}

@@ -3,8 +3,8 @@ use borrow.Author.Needs.{needs}
 use mathlib.Core.Path.{refl}
 use native.Mathlib.Omega.{arith}
 use Rattle.octets.proofs.Put.{same}
-use Rattle.reference.specs.Tables.{shown}
-use Rattle.reference.specs.Layout.{layoutName}
+use Rattle.reference.specs.Contents.{shown}
+use Rattle.reference.specs.Layout.{layoutName, layoutNamed}
 use Rattle.image.proofs.Laid.{onto}
 use Rattle.image.proofs.write_name.Statement.{statement}
 use Rattle.image.proofs.write_name.Tie as tie
@@ -19,7 +19,7 @@ same-length : tie.Need-same-length
 same-length c = search needs
 
 returns : tie.Need-returns
-unfolding layoutName
+unfolding layoutNamed
 returns c =
     let q = c .before .before in
     let p = q .before .before .before .before in

@@ -1,20 +1,57 @@
--- `lite_options::read_lite_rest` meets its contract: names, context, then what ends the data. Assumes nothing.
-use Prim.Native.Nat.{_+_, _≤_}
+-- `lite_options::read_lite_rest` meets its contract. Names, context and extras are read one after the other, and the profile's own entry is
+-- stored. Assumes nothing.
+use Prim.Native.Nat.{ℕ, _+_}
 use mathlib.Core.Path.{_≡_, sym, ap, _∙_}
+use mathlib.Core.Logic.{⊎-elim}
+use mathlib.Core.List.{List}
 use native.Mathlib.Omega.{arith}
+use denote.Ref.{now}
 use lib.ListN.{length}
-use Rattle.reference.specs.Reader.{ending}
-use Rattle.reference.specs.Tables.{view}
+use Rattle.octets.specs.Octets.{Octets}
+use Rattle.reference.specs.declared.TaggedProfile.the-variants as Sort
+use Rattle.reference.specs.Steps.{ok}
+use Rattle.reference.specs.Reader.{readRun, readContext}
+use Rattle.reference.specs.Placed.{view}
+use Rattle.reference.proofs.Laws.{reads-many}
+use Rattle.reference.proofs.Parts.{name-reads}
 use Rattle.reference.proofs.Steps.{seen-ok, seen-no, ending-at}
+use Rattle.reference.specs.Places.{place-context-length, place-service-leftover}
+use Rattle.table.specs.Flat.{profileRegion}
+use Rattle.table.proofs.Stored.{stored-in, stored-out}
 use Rattle.components.proofs.Fills.{told-no, told-ok}
-use Rattle.lite_options.specs.Head.{readRun}
-use Rattle.lite_options.specs.Rest.{endKept}
-use Rattle.lite_options.specs.Told.{runTold}
-use Rattle.lite_options.proofs.Bounds.{names-end}
-use Rattle.lite_options.proofs.Kept.{rest-no-names, rest-no-context, rest-ok}
+use Rattle.components.proofs.Moves.{octets-of-slice, moved}
+use Rattle.lite_options.specs.Told.{runTold, headed}
+use Rattle.lite_options.proofs.Rest.{no-names, no-context, no-extras, all-filed}
 use borrow.Author.Needs.{needs}
 use Rattle.lite_options.proofs.read_lite_rest.Statement.{statement}
 use Rattle.lite_options.proofs.read_lite_rest.Tie as tie
+
+-- behind the names: the function's entry, where they end, and the octets
+abbrev entry : tie.After-mid → tie.Start
+entry m = m .before .before .before .before .before .before .before .before .before
+
+abbrev mid : tie.After-mid → ℕ
+mid m = m .mid .given .0 .0
+
+octs : (m : tie.After-mid) → Octets (now (entry m .args .d))
+octs m = octets-of-slice (now (entry m .args .d)) (λ k. omega (arith, m .before .before .before .before .before .before .before .before .shared-slice-known .given k))
+
+-- behind the context: what stood before it, where it ends, and what was read
+abbrev named : tie.After-view → tie.After-mid
+named v = v .before .before .before .before
+
+abbrev next : tie.After-view → ℕ
+next v = v .view .given .0 .1 .0
+
+context-read : (v : tie.After-view)
+    → (x : List ℕ) × (readContext (now (entry (named v) .args .d)) (mid (named v)) (entry (named v) .args .head .stop) ≡ ok x (next v))
+    × (v .view .given .0 .0 ≡ view (entry (named v) .args .at + 8 + mid (named v) + 4) x)
+context-read v =
+    let a = entry (named v) .args in
+    seen-ok (view (a .at + 8 + mid (named v) + 4)) (readContext (a .d .now) (mid (named v)) (a .head .stop)) (sym (v .before .before .read-context .ensures) ∙ ap runTold (v .view .given .1))
+
+add-base : tie.Need-add-base
+add-base c = search needs
 
 cast-names : tie.Need-cast-names
 cast-names c = search needs
@@ -30,10 +67,10 @@ enum-known-mid c = search needs
 
 read-context-requires : tie.Need-read-context-requires
 read-context-requires c κs =
-    let r = c .before .before .before .before .before in
-    let a = r .before .before .before .before .before .args in
-    let (ns, e, s) = told-ok (r .read-names .ensures) (c .before .mid .given .1) in
-    (names-end (a .d .now) (a .head .names) (a .pos) (a .head .stop) (omega arith) (omega arith) e, omega arith, omega arith)
+    let m = c .before in
+    let a = entry m .args in
+    let (ns, e, s) = told-ok (m .before .before .before .before .read-names .ensures) (m .mid .given .1) in
+    (moved (reads-many name-reads (a .head .names)) (a .d .now) 35 (a .head .stop) (octs m) (omega arith) (omega arith) e .0, omega arith, omega arith)
 
 enum-known-why-2 : tie.Need-enum-known-why-2
 enum-known-why-2 c = search needs
@@ -41,24 +78,33 @@ enum-known-why-2 c = search needs
 enum-known-view : tie.Need-enum-known-view
 enum-known-view c = search needs
 
-read-lite-end-requires : tie.Need-read-lite-end-requires
-read-lite-end-requires c κs =
+read-extras-requires : tie.Need-read-extras-requires
+unfolding readContext
+read-extras-requires c κs =
     let v = c .before .before in
-    let x = v .before .before in
-    let m = x .before .before in
-    let r = m .before .before .before .before in
-    let a = r .before .before .before .before .before .args in
-    let mid = m .mid .given .0 .0 in
-    let (w, e, s) =
-    seen-ok (view (a .base + mid + 4)) (ending 23 (readRun 22) (a .d .now) mid (a .head .stop)) (sym (x .read-context .ensures) ∙ ap runTold (v .view .given .1)) in
-    let p : v .view .given .0 .1 .0 ≡ a .head .stop = ending-at 23 (readRun 22) (a .d .now) mid (a .head .stop) e in
-    let inside : v .view .given .0 .1 .0 ≤ length (a .d .now) = omega (arith, p) in
-    let small : a .base + length (a .d .now) ≤ 65535 = omega arith in
-    let extras : a .head .extras ≤ 255 = omega arith in
-    let first-name : a .used .names ≤ 65535 = omega arith in
-    let first-extra : a .used .extras ≤ 65535 = omega arith in
-    let long : length (a .table .now) ≡ 490 = omega arith in
-    (inside, small, extras, first-name, first-extra, r .read-names .kept .1 .1 .1 .1 .1 .0 ∙ long)
+    let a = entry (named v) .args in
+    let (x, q, w) = context-read v in
+    let p = ending-at place-service-leftover (readRun 4 place-context-length) (a .d .now) (mid (named v)) (a .head .stop) q in
+    let h = entry (named v) .pre in
+    (omega arith, omega arith, omega arith, named v .before .before .before .before .read-names .kept .1 .1 .1 .1 .1 .0 ∙ omega arith)
+
+enum-known-why-3 : tie.Need-enum-known-why-3
+enum-known-why-3 c = search needs
+
+enum-known-last : tie.Need-enum-known-last
+enum-known-last c = search needs
+
+cast-put-lite : tie.Need-cast-put-lite
+cast-put-lite c = search needs
+
+put-lite-requires : tie.Need-put-lite-requires
+put-lite-requires c κs = search needs
+
+add-used : tie.Need-add-used
+add-used c = search needs
+
+add-used-2 : tie.Need-add-used-2
+add-used-2 c = search needs
 
 same-length : tie.Need-same-length
 same-length c = search needs
@@ -67,45 +113,57 @@ returns : tie.Need-returns
 returns c =
     let r = c .before .before .before .before .before in
     let a = r .before .before .before .before .before .args in
-    rest-no-names (a .d .now) (a .base) (a .head) (a .pos) (a .used) (a .i) (a .table .now) (told-no (r .read-names .ensures) (c .before .why .given .1))
+    λ w v. record { told = no-names (a .at) (a .table .now) (a .i) (a .used) (a .d .now) (headed (a .head) w) (told-no (r .read-names .ensures) (c .before .why .given .1)) }
 
 same-length-2 : tie.Need-same-length-2
 same-length-2 c = search needs
 
 returns-2 : tie.Need-returns-2
 returns-2 c =
-    let x = c .before .before .before in
-    let m = x .before .before in
-    let r = m .before .before .before .before in
-    let a = r .before .before .before .before .before .args in
-    let mid = m .mid .given .0 .0 in
-    let (ns, e, s) = told-ok (r .read-names .ensures) (m .mid .given .1) in
-    let q = seen-no (view (a .base + mid + 4)) (ending 23 (readRun 22) (a .d .now) mid (a .head .stop)) (sym (x .read-context .ensures) ∙ ap runTold (c .before .why2 .given .1)) in
-    rest-no-context (a .d .now) (a .base) (a .head) (a .pos) (a .used) (a .i) (a .table .now) e q
+    let r = c .before .before .before in
+    let m = r .before .before in
+    let a = entry m .args in
+    let (ns, e, s) = told-ok (m .before .before .before .before .read-names .ensures) (m .mid .given .1) in
+    let q = seen-no (view (a .at + 8 + mid m + 4)) (readContext (a .d .now) (mid m) (a .head .stop)) (sym (r .read-context .ensures) ∙ ap runTold (c .before .why2 .given .1)) in
+    λ w v. record { told = no-context (a .at) (a .table .now) (a .i) (a .used) (a .d .now) (headed (a .head) w) e q }
 
 same-length-3 : tie.Need-same-length-3
 same-length-3 c = search needs
 
 returns-3 : tie.Need-returns-3
 returns-3 c =
-    let f = c .before .before in
-    let v = f .before .before .before in
-    let x = v .before .before in
-    let m = x .before .before in
-    let r = m .before .before .before .before in
-    let a = r .before .before .before .before .before .args in
-    let mid = m .mid .given .0 .0 in
-    let (ns, e, s) = told-ok (r .read-names .ensures) (m .mid .given .1) in
-    let (w, q, p) =
-    seen-ok (view (a .base + mid + 4)) (ending 23 (readRun 22) (a .d .now) mid (a .head .stop)) (sym (x .read-context .ensures) ∙ ap runTold (v .view .given .1)) in
-    f .read-lite-end .ensures
-    ∙ (λ j. endKept (a .d .now) (a .base) (a .head) (p j) (v .view .given .0 .1 .0) (a .used) (a .i) (s j))
-    ∙ rest-ok (a .d .now) (a .base) (a .head) (a .pos) (a .used) (a .i) (a .table .now) e q
+    let r = c .before .before .before .before .before in
+    let k = r .before .before .before in
+    let a = entry (named k) .args in
+    let (ns, e, s) = told-ok (named k .before .before .before .before .read-names .ensures) (named k .mid .given .1) in
+    let (x, q, ev) = context-read k in
+    λ w v. record { told = no-extras (a .at) (a .table .now) (a .i) (a .used) (a .d .now) (headed (a .head) w) e q (told-no (r .read-extras .ensures) (c .before .why3 .given .1)) }
+
+same-length-4 : tie.Need-same-length-4
+same-length-4 c =
+    let r = c .before .before .before .before .before .before in
+    let k = r .read-extras .kept .1 .1 .1 .1 .1 .1 .0 ∙ named (r .before .before .before) .before .before .before .before .read-names .kept .1 .1 .1 .1 .1 .0 in
+    ⊎-elim (λ y. ap length (y .5) ∙ y .2 .kept .1 .1 .1 .1 .0 ∙ k) (λ y. ap length (y .1) ∙ k) (c .if1 .came)
+
+returns-4 : tie.Need-returns-4
+returns-4 c =
+    let r = c .before .before .before .before .before .before in
+    let k = r .before .before .before in
+    let m = named k in
+    let a = entry m .args in
+    let (ns, e, s) = told-ok (m .before .before .before .before .read-names .ensures) (m .mid .given .1) in
+    let (x, q, ev) = context-read k in
+    let (es, f, s′) = told-ok (r .read-extras .ensures) (c .before .before .last .given .1) in
+    let p = Sort.LiteOptions (a .head .address) (a .head .names) (k .view .given .0 .0) (a .head .extras) in
+    let s″ = ⊎-elim (λ y. stored-in profileRegion _ (a .i) p (omega arith) (y .5 ∙ y .2 .ensures)) (λ y. stored-out profileRegion _ (a .i) p (omega arith) (y .1)) (c .if1 .came) in
+    let h = entry m .pre in
+    λ w v. record { told = all-filed (a .at) (a .table .now) (a .i) (a .used) (a .d .now) (headed (a .head) w) e q (octs m) (omega arith) (omega arith) (omega arith) f s s′ s″ v ev }
 
 pub read-lite-rest-spec : {M : Type 1} → statement M
 read-lite-rest-spec =
     tie.close
     (tie.spec
+    add-base
     cast-names
     read-names-requires
     enum-known-why
@@ -113,10 +171,18 @@ read-lite-rest-spec =
     read-context-requires
     enum-known-why-2
     enum-known-view
-    read-lite-end-requires
+    read-extras-requires
+    enum-known-why-3
+    enum-known-last
+    cast-put-lite
+    put-lite-requires
+    add-used
+    add-used-2
     same-length
     returns
     same-length-2
     returns-2
     same-length-3
-    returns-3)
+    returns-3
+    same-length-4
+    returns-4)

@@ -1,22 +1,23 @@
 -- `lite_options::read_names` meets its contract. Each turn stores one name more; what is left to read does what was to be read. Assumes nothing.
-use Prim.Native.Nat.{_+_, _-_, _*_, _≤_}
+use Prim.Native.Nat.{_+_, _-_, _≤_}
 use mathlib.Core.Path.{_≡_, sym, ap, _∙_}
 use mathlib.Core.Logic.{⊎-elim}
 use mathlib.Core.List.{[], _∷_}
 use native.Mathlib.Omega.{arith}
 use borrow.Author.Needs.{needs}
-use Rattle.octets.specs.Octets.{splice}
 use Rattle.reference.specs.declared.NameComponent.{NameComponent}
 use Rattle.reference.specs.Layout.{layoutName}
-use Rattle.reference.specs.Reader.{ok, readName}
-use Rattle.reference.specs.Tables.{nameAt}
+use Rattle.reference.specs.Steps.{ok}
+use Rattle.reference.specs.Reader.{readName}
+use Rattle.reference.specs.Placed.{nameAt}
+use Rattle.reference.proofs.Parts.{name-reads}
 use Rattle.reference.proofs.Steps.{seen-ok, seen-no}
 use Rattle.table.specs.Region.{stored}
-use Rattle.table.specs.Flat.{nameRegion, nameNumbers}
+use Rattle.table.specs.Flat.{nameRegion}
 use Rattle.lite_options.specs.Told.{nameTold}
 use Rattle.table.proofs.Stored.{stored-in, stored-out}
 use Rattle.components.proofs.Fills.{Fills, begin, turn, stop, finish}
-use Rattle.lite_options.proofs.Runs.{name-moves}
+use Rattle.components.proofs.Moves.{octets-of-slice, moved}
 use Rattle.lite_options.proofs.read_names.Statement.{statement}
 use Rattle.lite_options.proofs.read_names.Tie as tie
 
@@ -69,12 +70,12 @@ loop-again c =
     let a = b .before .before .before .before .before .args in
     let q = c .before .before .name .given in
     let (t, e, ev) = seen-ok (nameAt (a .base + l .cur)) (readName (a .d .now) (l .cur) (a .end)) (sym (b .read-name .ensures) ∙ ap nameTold (q .1)) in
-    let (s, r) = name-moves (a .d .now) (l .cur) (a .end) (omega arith) e in
+    let o = octets-of-slice (a .d .now) (λ k. omega (arith, b .before .before .before .before .shared-slice-known .given k)) in
+    let (r, s) = moved name-reads (a .d .now) (l .cur) (a .end) o (omega arith) (omega arith) e in
     let n : c .if1 .cur ≡ q .0 .1 .0 = ⊎-elim (λ y. y .6) (λ y. y .2) (c .if1 .came) in
-    let p : c .if1 .table ≡ stored nameRegion (l .table) (a .first + l .i) (nameAt (a .base + l .cur) t ∷ []) =
-    ⊎-elim (λ y. stored-in nameRegion (l .table) (a .first + l .i) (nameAt (a .base + l .cur) t) (omega arith) (y .5 ∙ y .2 .ensures ∙ ap (λ (v : NameComponent). splice (l .table) (266 + 4 * (a .first + l .i)) (nameNumbers v)) ev))
-    (λ y. stored-out nameRegion (l .table) (a .first + l .i) (nameAt (a .base + l .cur) t) (omega arith) (y .1)) (c .if1 .came) in
-    (omega (arith, r, n), turn (l .inv .1) (omega arith) (omega arith) (e ∙ ap (ok t) (sym n)) (n ∙ s) p)
+    let p = ⊎-elim (λ y. stored-in nameRegion (l .table) (a .first + l .i) (q .0 .0) (omega arith) (y .5 ∙ y .2 .ensures))
+    (λ y. stored-out nameRegion (l .table) (a .first + l .i) (q .0 .0) (omega arith) (y .1)) (c .if1 .came) in
+    (omega (arith, r, n), turn (l .inv .1) (omega arith) (omega arith) (e ∙ ap (ok t) (sym n)) (n ∙ s) (p ∙ ap (λ (x : NameComponent). stored nameRegion (l .table) (a .first + l .i) (x ∷ [])) ev))
 
 same-length-2 : tie.Need-same-length-2 Inv-loop μ-loop
 same-length-2 c = c .before .loop .inv .1 .long

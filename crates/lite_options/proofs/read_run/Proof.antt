@@ -1,14 +1,14 @@
 -- `lite_options::read_run` meets its contract: each return is a case of the definition. Assumes nothing.
-use Prim.Native.Nat.{ℕ, _+_, _-_}
+use Prim.Native.Nat.{_+_}
 use mathlib.Core.Path.{_≡_, sym, ap, _∙_}
+use native.Mathlib.Nat.{add-assoc}
 use native.Mathlib.Omega.{arith}
 use lib.ListN.{length}
 use Rattle.octets.specs.Octets.{be, part}
 use Rattle.octets.proofs.Part.{length-part}
-use Rattle.reference.specs.declared.View.{View}
-use Rattle.reference.specs.Reader.{ok, refused, refusal, seen}
-use Rattle.reference.specs.Tables.{view}
-use Rattle.lite_options.proofs.Runs.{length-cut, run-over, run-read}
+use Rattle.reference.specs.Steps.{refused, seen}
+use Rattle.reference.specs.Placed.{view}
+use Rattle.reference.proofs.Heads.{length-cut, run-over, run-read}
 use borrow.Author.Needs.{needs}
 use Rattle.lite_options.proofs.read_run.Statement.{statement}
 use Rattle.lite_options.proofs.read_run.Tie as tie
@@ -22,7 +22,7 @@ cut-requires c κs = search needs
 returns : tie.Need-returns
 returns c =
     let a = c .before .before .before .args in
-    ap refused (c .cut .ensures) ∙ ap (seen (view (a .base + a .pos + 4))) (sym (length-cut (a .place) (a .d .now) (a .pos) (a .end) (omega arith)))
+    ap refused (c .cut .ensures) ∙ ap (seen (view (a .base + a .pos + 4))) (sym (length-cut 4 (a .place) (a .d .now) (a .pos) (a .end) (omega arith)))
 
 be32-requires : tie.Need-be32-requires
 be32-requires c κs = search needs
@@ -37,8 +37,7 @@ returns-2 : tie.Need-returns-2
 returns-2 c =
     let b = c .before .before in
     let a = b .before .before .before .args in
-    ap refused (c .too-long .ensures ∙ ap (λ (n : ℕ). refusal 2 0 n (a .end - (a .pos + 4))) (b .be32 .ensures))
-    ∙ ap (seen (view (a .base + a .pos + 4))) (sym (run-over (a .place) (a .d .now) (a .pos) (a .end) (omega arith) (omega arith)))
+    rw (c .too-long .ensures, b .be32 .ensures) (ap (seen (view (a .base + a .pos + 4))) (sym (run-over 4 (a .place) (a .d .now) (a .pos) (a .end) (omega arith) (omega arith))))
 
 view-of-requires : tie.Need-view-of-requires
 view-of-requires c κs = search needs
@@ -50,13 +49,10 @@ returns-3 : tie.Need-returns-3
 returns-3 c =
     let b = c .before .before in
     let a = b .before .before .before .args in
-    let n = be (part (a .d .now) (a .pos) 4) in
-    let v = c .view-of in
-    let p : v .result .at ≡ a .base + a .pos + 4 = omega (arith, ap (λ (w : View). w .at) (v .ensures)) in
-    let q : v .result .len ≡ length (part (a .d .now) (a .pos + 4) n) =
-    ap (λ (w : View). w .len) (v .ensures) ∙ b .be32 .ensures ∙ sym (length-part (a .d .now) (a .pos + 4) n (omega arith)) in
-    (λ j. ok (record { at = p j; len = q j }) (a .pos + 4 + b .be32 .ensures j))
-    ∙ ap (seen (view (a .base + a .pos + 4))) (sym (run-read (a .place) (a .d .now) (a .pos) (a .end) (omega arith) (omega arith)))
+    let n = b .be32 .ensures in
+    let e = run-read 4 (a .place) (a .d .now) (a .pos) (a .end) (omega arith) (omega arith) in
+    let l : length (part (a .d .now) (a .pos + 4) (be (part (a .d .now) (a .pos) 4))) ≡ b .be32 .result = length-part (a .d .now) (a .pos + 4) _ (omega arith) ∙ sym n in
+    rw e (cc (c .view-of .ensures, n, l, add-assoc (a .base) (a .pos) 4))
 
 pub read-run-spec : {M : Type 1} → statement M
 read-run-spec =

@@ -3,7 +3,8 @@ use borrow.Author.Needs.{needs}
 use Prim.Native.Nat.{ℕ, _+_, _*_}
 use mathlib.Core.Path.{sym, ap, ap₂, _∙_}
 use Rattle.octets.specs.Octets.{part}
-use Rattle.reference.specs.Checks.{both, each, sum}
+use Rattle.reference.specs.Checks.{both, each}
+use Rattle.reference.specs.Meaning.{sum}
 use Rattle.reference.specs.Writer.{tapSize, shortCheck, extraShort}
 use Rattle.reference.specs.declared.View.{View}
 use Rattle.measuring.specs.ByTable.{usedIn}

@@ -4,7 +4,7 @@ use Prim.Native.Nat.{_-_, _*_, _≤_}
 use mathlib.Core.Path.{_≡_, refl}
 use native.Mathlib.Omega.{arith}
 use lib.ListN.{getD}
-use Rattle.reference.specs.Tables.{tapsIn, namesIn, extrasIn}
+use Rattle.reference.specs.Used.{tapsIn, namesIn, extrasIn}
 use Rattle.table.proofs.Entries.{profileOfTable}
 use Rattle.measuring.specs.ByTable.{usedIn}
 use Rattle.measuring.proofs.Going.{Summing, sum-begin, sum-turn, sum-end}

@@ -1,11 +1,12 @@
--- `names::read_run` meets its contract. Each return is a case of the step `counted`. Assumes nothing.
-use Prim.Native.Nat.{_+_}
-use mathlib.Core.Path.{ap, _∙_}
+-- `names::read_run` meets its contract. Each return is a case of the reader of a run. Assumes nothing.
+use Prim.Native.Nat.{_+_, _≤_}
+use mathlib.Core.Path.{sym, ap, _∙_}
 use native.Mathlib.Omega.{arith}
+use lib.ListN.{length}
 use denote.Ref.{now}
-use Rattle.reference.specs.declared.View.{View}
-use Rattle.reference.specs.Reader.{ok, refused}
-use Rattle.names.proofs.Cases.{length-cut, run-over, run-got}
+use Rattle.octets.proofs.Part.{length-part}
+use Rattle.reference.specs.Steps.{refused, seen}
+use Rattle.reference.proofs.Heads.{length-cut, run-over, run-read}
 use borrow.Author.Needs.{needs}
 use Rattle.names.proofs.read_run.Statement.{statement}
 use Rattle.names.proofs.read_run.Tie as tie
@@ -17,7 +18,7 @@ cut-requires : tie.Need-cut-requires
 cut-requires c κs = search needs
 
 returns : tie.Need-returns
-returns c = let a = c .before .before .before .args in ap refused (c .cut .ensures) ∙ length-cut (a .place) (now (a .s)) (a .pos) (omega arith)
+returns c = ap refused (c .cut .ensures) ∙ sym (ap (seen _) (length-cut _ _ _ _ _ (omega arith)))
 
 octet-requires : tie.Need-octet-requires
 octet-requires c κs = search needs
@@ -30,22 +31,20 @@ too-long-requires c κs = search needs
 
 returns-2 : tie.Need-returns-2
 returns-2 c =
-    let o = c .before .before in
-    let a = o .before .before .before .args in
-    ap refused (c .too-long .ensures) ∙ run-over (a .place) (now (a .s)) (a .pos) (omega arith) (o .octet .result) (o .octet .ensures) (omega arith)
+    ap refused (rw (c .before .before .octet .ensures) at (c .too-long .ensures)) ∙ sym (ap (seen _) (run-over _ _ _ _ _ (omega arith) (omega arith)))
 
-view-of-requires : tie.Need-view-of-requires
-view-of-requires c κs = search needs
+cast-t12 : tie.Need-cast-t12
+cast-t12 c = search needs
 
-add-t10 : tie.Need-add-t10
-add-t10 c = search needs
+cast-t13 : tie.Need-cast-t13
+cast-t13 c = search needs
 
 returns-3 : tie.Need-returns-3
 returns-3 c =
-    let o = c .before .before in
+    let o = c .before in
     let a = o .before .before .before .args in
-    ap (λ (v : View). ok v (a .pos + 1 + o .octet .result)) (c .view-of .ensures)
-    ∙ run-got (a .place) (now (a .s)) (a .pos) (omega arith) (o .octet .result) (o .octet .ensures) (omega arith)
+    let room : a .pos + 1 + o .octet .result ≤ length (now (a .s)) = omega arith in
+    rw (run-read 1 (a .place) (now (a .s)) (a .pos) (length (now (a .s))) (omega arith) (omega arith), ← o .octet .ensures, length-part)
 
 pub read-run-spec : {M : Type 1} → statement M
 read-run-spec =
@@ -58,6 +57,6 @@ read-run-spec =
     cast-len
     too-long-requires
     returns-2
-    view-of-requires
-    add-t10
+    cast-t12
+    cast-t13
     returns-3)

@@ -4,7 +4,7 @@ use mathlib.Core.Path.{refl, sym, ap}
 use native.Mathlib.Omega.{arith}
 use Rattle.octets.specs.Octets.{octets}
 use Rattle.octets.proofs.Put.{then, same}
-use Rattle.reference.specs.Tables.{tapOf}
+use Rattle.reference.specs.Contents.{tapOf}
 use Rattle.reference.specs.Layout.{tag-binder, layoutBinder}
 use Rattle.table.specs.Flat.{tablesFrom}
 use Rattle.table.proofs.Entries.{taps-length}

@@ -4,7 +4,8 @@ use Prim.Native.Nat.{_+_, _-_, _≤_}
 use native.Mathlib.Omega.{arith}
 use lib.ListN.{length}
 use Rattle.reference.specs.Layout.{layoutExtra}
-use Rattle.reference.specs.Tables.{extraOf, noExtra}
+use Rattle.reference.specs.Contents.{extraOf}
+use Rattle.reference.specs.Tabled.{noExtra}
 use Rattle.reference.specs.Writer.{extraSize}
 use Rattle.table.specs.Flat.{tablesFrom}
 use Rattle.table.proofs.Entries.{extras-length, extra-entry}

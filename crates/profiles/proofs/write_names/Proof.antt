@@ -4,7 +4,8 @@ use Prim.Native.Nat.{_+_, _-_, _≤_}
 use native.Mathlib.Omega.{arith}
 use lib.ListN.{length}
 use Rattle.reference.specs.Layout.{layoutName}
-use Rattle.reference.specs.Tables.{nameOf, noName}
+use Rattle.reference.specs.Contents.{nameOf}
+use Rattle.reference.specs.Tabled.{noName}
 use Rattle.reference.specs.Writer.{nameSize}
 use Rattle.table.specs.Flat.{tablesFrom}
 use Rattle.table.proofs.Entries.{names-length, name-entry}

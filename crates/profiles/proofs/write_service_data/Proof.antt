@@ -4,7 +4,7 @@ use mathlib.Core.Path.{refl, sym, ap}
 use native.Mathlib.Omega.{arith}
 use Rattle.octets.specs.Octets.{octets}
 use Rattle.octets.proofs.Put.{then, same}
-use Rattle.reference.specs.Tables.{nameOf}
+use Rattle.reference.specs.Contents.{nameOf}
 use Rattle.reference.specs.Layout.{layoutService}
 use Rattle.table.specs.Flat.{tablesFrom}
 use Rattle.table.proofs.Entries.{names-length}

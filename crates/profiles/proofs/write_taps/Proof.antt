@@ -4,7 +4,8 @@ use Prim.Native.Nat.{_+_, _-_, _≤_}
 use native.Mathlib.Omega.{arith}
 use lib.ListN.{length}
 use Rattle.reference.specs.Layout.{layoutTap}
-use Rattle.reference.specs.Tables.{tapOf, noTap}
+use Rattle.reference.specs.Contents.{tapOf}
+use Rattle.reference.specs.Tabled.{noTap}
 use Rattle.reference.specs.Writer.{tapSize}
 use Rattle.table.specs.Flat.{tablesFrom}
 use Rattle.table.proofs.Entries.{taps-length, tap-entry}

@@ -1,8 +1,5 @@
--- `questions::is_dvb` meets its contract. Each test is one of the four constants. Assumes nothing.
-use Prim.Native.Nat.{ℕ}
-use mathlib.Core.Path.{sym, ap, _∙_}
-use lib.Dec.{eqb}
-use Rattle.questions.proofs.Cases.{dvb-afi, dvb-type, dvb-specifier, dvb-rest}
+-- `questions::is_dvb` meets its contract. The four constants where they stand. Assumes nothing.
+use Rattle.reference.specs.Questions.{dvbAddress}
 use borrow.Author.Needs.{needs}
 use Rattle.questions.proofs.is_dvb.Statement.{statement}
 use Rattle.questions.proofs.is_dvb.Tie as tie
@@ -13,17 +10,11 @@ slice-aggregate-octet c = search needs
 octet-requires : tie.Need-octet-requires
 octet-requires c κs = search needs
 
-returns : tie.Need-returns
-returns c = sym (dvb-afi _ (λ e. c .if1 .taken (c .before .octet .ensures ∙ e)))
-
 slice-aggregate-octet-2 : tie.Need-slice-aggregate-octet-2
 slice-aggregate-octet-2 c = search needs
 
 octet-requires-2 : tie.Need-octet-requires-2
 octet-requires-2 c κs = search needs
-
-returns-2 : tie.Need-returns-2
-returns-2 c = sym (dvb-type _ (λ e. c .if2 .taken (c .before .octet2 .ensures ∙ e)))
 
 slice-aggregate-octet-3 : tie.Need-slice-aggregate-octet-3
 slice-aggregate-octet-3 c = search needs
@@ -31,22 +22,18 @@ slice-aggregate-octet-3 c = search needs
 octet-requires-3 : tie.Need-octet-requires-3
 octet-requires-3 c κs = search needs
 
-returns-3 : tie.Need-returns-3
-returns-3 c = sym (dvb-specifier _ (λ e. c .if3 .taken (c .before .octet3 .ensures ∙ e)))
-
 slice-aggregate-be32 : tie.Need-slice-aggregate-be32
 slice-aggregate-be32 c = search needs
 
 be32-requires : tie.Need-be32-requires
 be32-requires c κs = search needs
 
-returns-4 : tie.Need-returns-4
-returns-4 c =
+returns : tie.Need-returns
+unfolding dvbAddress
+returns c =
     let p = c .before .before in
-    let k = p .before .before .before in
-    let f = k .before .before .before in
-    ap (λ (x : ℕ). eqb x 0xFFFFFFFF) (c .be32 .ensures)
-    ∙ sym (dvb-rest _ (sym (f .before .octet .ensures) ∙ f .if1 .left) (sym (k .before .octet2 .ensures) ∙ k .if2 .left) (sym (p .before .octet3 .ensures) ∙ p .if3 .left))
+    let k = p .before .before in
+    rw (c .be32 .ensures, p .octet3 .ensures, k .octet2 .ensures, k .before .before .octet .ensures)
 
 pub is-dvb-spec : {M : Type 1} → statement M
 is-dvb-spec =
@@ -54,13 +41,10 @@ is-dvb-spec =
     (tie.spec
     slice-aggregate-octet
     octet-requires
-    returns
     slice-aggregate-octet-2
     octet-requires-2
-    returns-2
     slice-aggregate-octet-3
     octet-requires-3
-    returns-3
     slice-aggregate-be32
     be32-requires
-    returns-4)
+    returns)

@@ -1,6 +1,6 @@
 -- `questions::kind_numbered` meets its contract. Each test names its kind; what passes all five is unknown. Assumes nothing.
-use Rattle.questions.proofs.Cases.{numbered-unknown}
 use mathlib.Core.Path.{sym, ap}
+use borrow.Author.Tests.{ne-eqb}
 use Rattle.reference.specs.Questions.{kindNumbered}
 use Rattle.questions.proofs.kind_numbered.Statement.{statement}
 use Rattle.questions.proofs.kind_numbered.Tie as tie
@@ -31,7 +31,7 @@ returns-6 c =
     let v = c .before in
     let u = v .before in
     let w = u .before in
-    sym (numbered-unknown _ (w .before .if1 .left) (w .if2 .left) (u .if3 .left) (v .if4 .left) (c .if5 .left))
+    rw (ne-eqb _ _ (w .before .if1 .left), ne-eqb _ _ (w .if2 .left), ne-eqb _ _ (u .if3 .left), ne-eqb _ _ (v .if4 .left), ne-eqb _ _ (c .if5 .left))
 
 pub kind-numbered-spec : {M : Type 1} → statement M
 kind-numbered-spec = tie.close (tie.spec returns returns-2 returns-3 returns-4 returns-5 returns-6)

@@ -1,10 +1,11 @@
 -- `questions::object_kind` meets its contract. Four octets are asked by their number, any other length is unknown. Assumes nothing.
 use mathlib.Core.Path.{sym, ap, _∙_}
 use native.Mathlib.Omega.{arith}
-use denote.Ref.{now}
-use Rattle.reference.specs.Questions.{kindNumbered}
+use borrow.Author.Tests.{eq-eqb}
+use lib.Seq.{take-all}
+use Rattle.octets.specs.Octets.{be}
+use Rattle.reference.specs.Questions.{kindNumbered, kindOf}
 use Rattle.reference.proofs.Asked.{kind-other}
-use Rattle.questions.proofs.Cases.{kind-four}
 use borrow.Author.Needs.{needs}
 use Rattle.questions.proofs.object_kind.Statement.{statement}
 use Rattle.questions.proofs.object_kind.Tie as tie
@@ -16,10 +17,10 @@ kind-numbered-requires : tie.Need-kind-numbered-requires
 kind-numbered-requires c κs = search needs
 
 returns : tie.Need-returns
+unfolding kindOf
 returns c =
     let b = c .before in
-    let l = now (b .before .before .before .args .type-id) in
-    c .kind-numbered .ensures ∙ ap kindNumbered (b .be32 .ensures) ∙ sym (kind-four l (omega arith))
+    rw (eq-eqb _ _ (b .before .if1 .taken)) (c .kind-numbered .ensures ∙ ap kindNumbered (b .be32 .ensures ∙ ap be (take-all 4 _ (omega arith))))
 
 returns-2 : tie.Need-returns-2
 returns-2 c = sym (kind-other _ (c .if1 .left))

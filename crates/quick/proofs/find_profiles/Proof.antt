@@ -5,7 +5,7 @@ use mathlib.Core.Path.{_≡_, refl, sym, ap, _∙_}
 use native.Mathlib.Omega.{arith}
 use lib.ListN.{getD}
 use Rattle.octets.specs.Octets.{part}
-use Rattle.reference.specs.Tables.{tapsIn, namesIn, extrasIn, bodyView}
+use Rattle.reference.specs.Used.{tapsIn, namesIn, extrasIn, bodyView}
 use Rattle.table.specs.Flat.{bodyOfTable}
 use Rattle.table.proofs.Entries.{profileOfTable}
 use Rattle.exact.specs.Exact.{every, profileExact, profilesExact}

@@ -9,9 +9,6 @@ use Rattle.reading.specs.Open.{endCheck}
 use Rattle.reading.proofs.check_end.Statement.{statement}
 use Rattle.reading.proofs.check_end.Tie as tie
 
-sub-left-over : tie.Need-sub-left-over
-sub-left-over c = search needs
-
 left-over-requires : tie.Need-left-over-requires
 left-over-requires c κs = search needs
 
@@ -32,4 +29,4 @@ returns-2 c =
 
 pub check-end-spec : {M : Type 1} → statement M
 check-end-spec =
-    tie.close (tie.spec sub-left-over left-over-requires returns check-room-requires returns-2)
+    tie.close (tie.spec left-over-requires returns check-room-requires returns-2)

@@ -9,9 +9,9 @@ use lib.ListN.{length}
 use Rattle.octets.specs.Octets.{splice}
 use Rattle.reference.specs.declared.Check.{Check}
 use Rattle.reference.specs.declared.Check.the-variants.{Pass}
-use Rattle.reference.specs.Reader.{ok}
+use Rattle.reference.specs.Steps.{ok}
 use Rattle.table.specs.Flat.{frontNumbers}
-use Rattle.reading.specs.Open.{endCheck, checked}
+use Rattle.reading.specs.Open.{endCheck, unless}
 use Rattle.reading.proofs.References.{end-fits}
 use Rattle.reading.proofs.finish.Statement.{statement}
 use Rattle.reading.proofs.finish.Tie as tie
@@ -58,7 +58,7 @@ returns c =
     let b = c .before .before .before in
     let a = b .before .before .before .args in
     let t = splice (now (a .table)) 0 (frontNumbers (a .type-id) (a .count) (a .used .taps) (a .used .names) (a .used .extras)) in
-    record { told = sym (ap (λ (k : Check). checked k t (a .last)) (sym (b .check-end .ensures) ∙ c .before .why .given .1)) }
+    record { told = sym (ap (λ (k : Check). unless k t (a .last)) (sym (b .check-end .ensures) ∙ c .before .why .given .1)) }
 
 same-length : tie.Need-same-length
 same-length c = search needs
@@ -69,7 +69,7 @@ returns-2 c =
     let e = b .before .before in
     let a = e .before .before .before .before .before .args in
     let t = splice (now (a .table)) 0 (frontNumbers (a .type-id) (a .count) (a .used .taps) (a .used .names) (a .used .extras)) in
-    record { told = ap (λ (x : List ℕ). ok x (a .last)) (b .put-front .ensures) ∙ sym (ap (λ (k : Check). checked k t (a .last)) (passed e)) }
+    record { told = ap (λ (x : List ℕ). ok x (a .last)) (b .put-front .ensures) ∙ sym (ap (λ (k : Check). unless k t (a .last)) (passed e)) }
 
 pub finish-spec : {M : Type 1} → statement M
 finish-spec =

@@ -1,13 +1,18 @@
 -- `reading::read_header` meets its contract. Each return is a case of the header's reader. Assumes nothing.
 use mathlib.Core.Path.{sym, ap, ap₂, _∙_}
-use Prim.Native.Nat.{ℕ, _+_, _-_}
+use Prim.Native.Nat.{ℕ, _+_}
 use native.Mathlib.Omega.{arith}
 use borrow.Author.Needs.{needs}
 use lib.ListN.{length}
-use Rattle.reference.specs.Reader.{ok, refused, refusal}
-use Rattle.reading.proofs.Headers.{header-cut, header-over, header-ok}
+use Rattle.reference.specs.Steps.{ok, refused}
+use Rattle.reference.specs.Refusals.{longAt}
+use Rattle.reference.specs.Heads.{Header}
+use Rattle.reference.proofs.Heads.{header-cut, header-over, header-read}
 use Rattle.reading.proofs.read_header.Statement.{statement}
 use Rattle.reading.proofs.read_header.Tie as tie
+
+abbrev told : ℕ → ℕ → Header
+told t n = record { tag = t; size = n }
 
 add-data : tie.Need-add-data
 add-data c = search needs
@@ -39,18 +44,15 @@ returns-2 : tie.Need-returns-2
 returns-2 c =
     let b = c .before .before in
     let a = b .before .before .before .before .args in
-    ap refused (c .too-long .ensures ∙ ap (λ (n : ℕ). refusal 2 0 n (length (a .d .now) - (a .pos + 8))) (b .be322 .ensures))
+    ap refused (c .too-long .ensures ∙ ap (λ (n : ℕ). longAt (a .pos + 8) n (length (a .d .now))) (b .be322 .ensures))
     ∙ sym (header-over (a .d .now) (a .pos) (length (a .d .now)) (omega arith) (omega arith))
-
-add-t10 : tie.Need-add-t10
-add-t10 c = search needs
 
 returns-3 : tie.Need-returns-3
 returns-3 c =
     let b = c .before in
     let a = b .before .before .before .before .args in
-    ap₂ (λ (t n : ℕ). ok t (a .pos + 8 + n)) (b .before .be32 .ensures) (b .be322 .ensures)
-    ∙ sym (header-ok (a .d .now) (a .pos) (length (a .d .now)) (omega arith) (omega arith))
+    ap₂ (λ (t n : ℕ). ok (told t n) (a .pos + 8)) (b .before .be32 .ensures) (b .be322 .ensures)
+    ∙ sym (header-read (a .d .now) (a .pos) (length (a .d .now)) (omega arith) (omega arith))
 
 pub read-header-spec : {M : Type 1} → statement M
 read-header-spec =
@@ -65,5 +67,4 @@ read-header-spec =
     cast-len
     too-long-requires
     returns-2
-    add-t10
     returns-3)

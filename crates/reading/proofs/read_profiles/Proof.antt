@@ -9,7 +9,8 @@ use Rattle.octets.proofs.Part.{length-part}
 use Rattle.reference.proofs.Parts.{profile-reads}
 use Rattle.components.proofs.Moves.{octets-of-slice, moved}
 use Rattle.reading.specs.Open.{headerTold}
-use Rattle.reading.proofs.Headers.{header-next, profile-unread, profile-not, profile-read}
+use Rattle.reference.proofs.Heads.{header-known, profile-no}
+use Rattle.reading.proofs.Headers.{profile-not, profile-read}
 use Rattle.reading.proofs.Bodies.{stored-ok, stored-no}
 use Rattle.reading.proofs.Filing.{Files, begin, turn, stop, finish}
 use Rattle.reading.proofs.read_profiles.Statement.{statement}
@@ -22,13 +23,13 @@ Inv-loop d pos n table₀ used₀ cur₀ i₀ table used cur i =
 abbrev μ-loop : tie.MeasureT-loop
 μ-loop d pos n table₀ used₀ cur₀ i₀ table used cur i = n - i
 
--- where the profile's data stands, once its header is read
-bounds : (c : tie.After-tag Inv-loop μ-loop) → (c .before .before .before .before .loop .cur + 8 ≤ c .tag .given .0 .1 .0) × (c .tag .given .0 .1 .0 ≤ length (now (c .before .before .before .before .before .before .before .args .d)))
-bounds c =
+-- the profile's data stands inside, once its header is read
+inside : (c : tie.After-tag Inv-loop μ-loop) → c .before .before .before .before .loop .cur + 8 + c .tag .given .0 .1 .0 ≤ length (now (c .before .before .before .before .before .before .before .args .d))
+inside c =
     let b = c .before .before in
     let l = b .before .before in
     let a = l .before .before .before .args in
-    header-next (a .d .now) (l .loop .cur) (length (a .d .now)) (sym (b .read-header .ensures) ∙ ap headerTold (c .tag .given .1))
+    header-known (a .d .now) (l .loop .cur) (length (a .d .now)) (sym (b .read-header .ensures) ∙ ap (headerTold (l .loop .cur)) (c .tag .given .1)) .1
 
 loop-holds : tie.Need-loop-holds Inv-loop μ-loop
 loop-holds c = (omega arith, begin (omega arith))
@@ -47,8 +48,8 @@ returns c =
     let b = c .before .before .before in
     let l = b .before .before in
     let a = l .before .before .before .args in
-    let e = sym (b .read-header .ensures) ∙ ap headerTold (c .before .why .given .1) in
-    record { told = stop (l .loop .inv .1) (omega arith) (profile-unread (a .d .now) (l .loop .cur) (length (a .d .now)) (omega arith) e) }
+    let e = sym (b .read-header .ensures) ∙ ap (headerTold (l .loop .cur)) (c .before .why .given .1) in
+    record { told = stop (l .loop .inv .1) (omega arith) (profile-no (a .d .now) (l .loop .cur) (length (a .d .now)) e) }
 
 enum-known-tag : tie.Need-enum-known-tag Inv-loop μ-loop
 enum-known-tag c = search needs
@@ -56,21 +57,24 @@ enum-known-tag c = search needs
 add-data : tie.Need-add-data Inv-loop μ-loop
 add-data c = omega arith
 
+add-next : tie.Need-add-next Inv-loop μ-loop
+add-next c = let h = inside (c .before) in search needs
+
 sub-read-body : tie.Need-sub-read-body Inv-loop μ-loop
-sub-read-body c = bounds (c .before) .0
+sub-read-body c = omega arith
 
 part-read-body-start : tie.Need-part-read-body-start Inv-loop μ-loop
-part-read-body-start c = let h = bounds (c .before) in search needs
+part-read-body-start c = omega arith
 
 part-read-body-end : tie.Need-part-read-body-end Inv-loop μ-loop
-part-read-body-end c = let h = bounds (c .before) in search needs
+part-read-body-end c = let h = inside (c .before) in search needs
 
 read-body-requires : tie.Need-read-body-requires Inv-loop μ-loop
 read-body-requires c κs =
-    let h = bounds (c .before .before .before) in
+    let h = inside (c .before .before .before) in
     let l = c .before .before .before .before .before .before .before in
     let a = l .before .before .before .args in
-    let n = length-part (a .d .now) (l .loop .cur + 8) (c .before .before .before .tag .given .0 .1 .0 - (l .loop .cur + 8)) (omega arith) in
+    let n = length-part (a .d .now) (l .loop .cur + 8) (l .loop .cur + 8 + c .before .before .before .tag .given .0 .1 .0 - (l .loop .cur + 8)) (omega arith) in
     (omega arith, omega (arith, l .loop .inv .1 .taps), omega (arith, l .loop .inv .1 .names), omega (arith, l .loop .inv .1 .extras), l .loop .inv .1 .long)
 
 enum-known-wrong : tie.Need-enum-known-wrong Inv-loop μ-loop
@@ -88,7 +92,7 @@ returns-2 c =
     let m = b .before .before .before .before in
     let l = m .before .before .before .before in
     let a = l .before .before .before .args in
-    let e = sym (m .before .before .read-header .ensures) ∙ ap headerTold (m .tag .given .1) in
+    let e = sym (m .before .before .read-header .ensures) ∙ ap (headerTold (l .loop .cur)) (m .tag .given .1) in
     record { told = stop (l .loop .inv .1) (omega arith) (profile-not (a .d .now) (l .loop .cur) (length (a .d .now)) (omega arith) e (stored-no (b .read-body .ensures) (c .before .wrong .given .1))) }
 
 enum-known-after : tie.Need-enum-known-after Inv-loop μ-loop
@@ -108,13 +112,13 @@ loop-again c =
     let s = l .before .before in
     let a = s .before .args in
     let d = a .d .now in
-    let h = bounds m in
-    let e = sym (m .before .before .read-header .ensures) ∙ ap headerTold (m .tag .given .1) in
+    let h = inside m in
+    let e = sym (m .before .before .read-header .ensures) ∙ ap (headerTold (l .loop .cur)) (m .tag .given .1) in
     let (p, q, t, u) = stored-ok (b .read-body .ensures) (c .before .after .given .1) in
     let r = profile-read d (l .loop .cur) (length d) (omega arith) e q in
     let o = octets-of-slice d (λ k. omega (arith, s .shared-slice-known .given k)) in
     let g = moved profile-reads d (l .loop .cur) (length d) o (omega arith) (omega arith) r in
-    (h .1, turn (l .loop .inv .1) (omega arith) r (g .1) t u)
+    (h, turn (l .loop .inv .1) (omega arith) r (g .1) t u)
 
 same-length-3 : tie.Need-same-length-3 Inv-loop μ-loop
 same-length-3 c = c .before .loop .inv .1 .long ∙ sym (c .before .before .before .before .pre .2)
@@ -135,6 +139,7 @@ read-profiles-spec =
     returns
     enum-known-tag
     add-data
+    add-next
     sub-read-body
     part-read-body-start
     part-read-body-end

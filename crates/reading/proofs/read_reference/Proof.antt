@@ -6,12 +6,14 @@ use native.Mathlib.Omega.{arith}
 use borrow.Author.Needs.{needs}
 use denote.Ref.{now}
 use lib.ListN.{length}
-use Rattle.reference.specs.Reader.{ok, many, readProfile}
+use Rattle.reference.specs.Steps.{ok, many}
+use Rattle.reference.specs.Reader.{readProfile}
+use Rattle.reference.specs.Heads.{Head}
 use Rattle.reference.proofs.Laws.{reads-many}
 use Rattle.reference.proofs.Parts.{profile-reads}
 use Rattle.reference.proofs.Steps.{seen-ok, seen-no}
 use Rattle.components.proofs.Moves.{octets-of-slice, moved}
-use Rattle.reading.specs.Open.{Head, HeadSeen, headSeen, headTold, opening}
+use Rattle.reading.specs.Open.{HeadSeen, headSeen, headTold, opening}
 use Rattle.reading.proofs.References.{opening-next}
 use Rattle.reading.proofs.Closing.{filed-ok, filed-no, stores-unopened, stores-unread, stores-closed}
 use Rattle.reading.proofs.read_reference.Statement.{statement}

@@ -4,8 +4,8 @@ use mathlib.Core.Path.{sym, ap, _∙_}
 use Prim.Native.Nat.{ℕ}
 use native.Mathlib.Omega.{arith}
 use Rattle.reference.specs.declared.Check.the-variants.{Refuse}
-use Rattle.reference.specs.Reader.{refusal}
-use Rattle.reference.specs.Tables.{usedOf}
+use Rattle.reference.specs.Refusals.{refusal}
+use Rattle.reference.specs.Tabled.{usedOf}
 use Rattle.table.specs.Flat.{tablesFrom}
 use Rattle.table.proofs.Entries.{type-id-entry}
 use Rattle.writing.proofs.Answers.{no-room-refuses, type-refuses, sizes-decide}

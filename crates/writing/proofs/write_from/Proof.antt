@@ -1,7 +1,7 @@
 -- `writing::write_from` meets its contract. The checks of measuring, then the rest. Assumes nothing.
 use borrow.Author.Needs.{needs}
 use mathlib.Core.Path.{sym, _∙_}
-use Rattle.reference.specs.Tables.{usedOf}
+use Rattle.reference.specs.Tabled.{usedOf}
 use Rattle.reference.specs.Writer.{sizeOf, measureCheck}
 use Rattle.table.specs.Flat.{tablesFrom}
 use Rattle.measuring.proofs.Order.{told-pass, told-refuse}

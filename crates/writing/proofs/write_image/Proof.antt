@@ -10,8 +10,10 @@ use Rattle.octets.proofs.Put.{then, same, kept}
 use Rattle.reference.specs.declared.View.{View}
 use Rattle.reference.specs.declared.Check.the-variants.{Pass}
 use Rattle.reference.specs.Layout.{layoutOf}
-use Rattle.reference.specs.Tables.{shown, usedOf, ownedOf, profileOf}
-use Rattle.reference.specs.Checks.{sum}
+use Rattle.reference.specs.Contents.{shown, profileOf}
+use Rattle.reference.specs.Tabled.{usedOf}
+use Rattle.reference.specs.Used.{ownedOf}
+use Rattle.reference.specs.Meaning.{sum}
 use Rattle.reference.specs.Writer.{ownSize, sizeOf, imageOf, writeCheck}
 use Rattle.reference.proofs.Formed.{Passing, passing}
 use Rattle.table.specs.Flat.{tablesFrom}

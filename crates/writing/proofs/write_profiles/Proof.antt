@@ -5,7 +5,8 @@ use Prim.Native.Nat.{_+_, _-_, _≤_}
 use native.Mathlib.Omega.{arith}
 use lib.ListN.{length}
 use Rattle.reference.specs.Layout.{layoutProfile}
-use Rattle.reference.specs.Tables.{ownedOf, profileOf}
+use Rattle.reference.specs.Used.{ownedOf}
+use Rattle.reference.specs.Contents.{profileOf}
 use Rattle.reference.specs.Writer.{ownSize}
 use Rattle.reference.proofs.Formed.{Passing, passing}
 use Rattle.table.specs.declared.Counts.{Counts}
