@@ -9,7 +9,8 @@ use Rattle.reference.specs.Reader.{readCount, readRun, readNamed, component, re
 use Rattle.reference.specs.Questions.{kindNumbered, kindOf}
 use Rattle.reference.specs.Worked.{j}
 use Rattle.records.specs.Records.{layoutRecord, recordAt}
-use Rattle.cache.specs.Rows.{foundText, refusedText, answerText, rowOf, heading, endText, brokenText, linesFrom, listed}
+use Rattle.records.specs.Walk.{walkFrom, walkOn}
+use Rattle.cache.specs.Rows.{foundText, refusedText, answerText, rowOf, heading, endText, brokenText, linesFor, listed}
 
 -- 00000003 00000000
 abbrev odd : List ℕ
@@ -21,14 +22,14 @@ rows =
     49 ∷ 32 ∷ 52 ∷ 50 ∷ 32 ∷ 115 ∷ 114 ∷ 103 ∷ 32 ∷ 49 ∷ 32 ∷ 48 ∷ 10 ∷ 50 ∷ 32 ∷ 56 ∷ 32 ∷ 45 ∷ 32 ∷ 45 ∷ 32 ∷ 52 ∷ 10 ∷ 101 ∷ 110 ∷ 100 ∷ 32 ∷ 50 ∷ 10 ∷ []
 
 pub example : listed (layoutRecord j ++ layoutRecord odd) ≡ heading ++ rows
-unfolding be octets digitsIn decimal hex hexes done need number checked run rest choose ending within fits apart many after readCount readRun readNamed component readFixed readExtra readTap readLocation readObjectLocation readBinder readBiop readAddress readName readContext readService readLite readBody readProfile readReference readWhole kindNumbered kindOf layoutRecord recordAt foundText refusedText answerText rowOf endText brokenText linesFrom listed
+unfolding be octets digitsIn decimal hex hexes done need number checked run rest choose ending within fits apart many after readCount readRun readNamed component readFixed readExtra readTap readLocation readObjectLocation readBinder readBiop readAddress readName readContext readService readLite readBody readProfile readReference readWhole kindNumbered kindOf layoutRecord recordAt foundText refusedText answerText rowOf endText brokenText walkFrom walkOn linesFor listed
 example = refl
 
 -- nothing: `end 0`; a remainder under four octets: `broken at 0`
 pub nothing : listed [] ≡ heading ++ (101 ∷ 110 ∷ 100 ∷ 32 ∷ 48 ∷ 10 ∷ [])
-unfolding digitsIn decimal recordAt endText linesFrom listed
+unfolding digitsIn decimal recordAt endText walkFrom walkOn linesFor listed
 nothing = refl
 
 pub remainder : listed (0x4F ∷ 0x52 ∷ 0 ∷ []) ≡ heading ++ (98 ∷ 114 ∷ 111 ∷ 107 ∷ 101 ∷ 110 ∷ 32 ∷ 97 ∷ 116 ∷ 32 ∷ 48 ∷ 10 ∷ [])
-unfolding digitsIn decimal recordAt brokenText linesFrom listed
+unfolding digitsIn decimal recordAt brokenText walkFrom walkOn linesFor listed
 remainder = refl

@@ -1,19 +1,19 @@
 -- The listing of a cache as text (document 01, "Cache listing"): a heading, a row for each record, and a last line. Assumes nothing.
-use Prim.Native.Nat.{ℕ, zero, suc, _+_, _-_, _*_, _≤_, _<_}
+use Prim.Native.Nat.{ℕ, _+_, _*_, _≤_, _<_}
 use mathlib.Core.Path.{_≡_}
 use mathlib.Core.Bool.{true, false}
 use mathlib.Core.List.{List, [], _∷_, _++_}
 use lib.ListN.{length, take}
-use Rattle.octets.specs.Octets.{part, octets}
+use Rattle.octets.specs.Octets.{octets}
 use Rattle.text.specs.Text.{decimal, hexes}
 use Rattle.reference.specs.Meaning.{Reference}
 use Rattle.reference.specs.Steps.{Answer, ok, refused}
 use Rattle.reference.specs.Reader.{readWhole}
 use Rattle.reference.specs.Questions.{Kind, directory, file, stream, serviceGateway, streamEvent, unknown, kindOf, dir, fil, str, srg, ste}
-use Rattle.records.specs.declared.Record.{Record}
-use Rattle.records.specs.declared.Record.the-variants.{Got, Broken, End}
+use Rattle.records.specs.declared.Record.the-variants.{Got}
 use Rattle.cache.specs.declared.Rows.{Rows}
 use Rattle.records.specs.Records.{recordAt}
+use Rattle.records.specs.Walk.{Piece, Ending, whole, broken, Walked, walk, walkOn, content}
 
 -- three letters, or eight lowercase hexadecimal digits
 abbrev pub kindText : Kind → List ℕ
@@ -54,31 +54,36 @@ endText k = (0x65 ∷ 0x6E ∷ 0x64 ∷ []) ++ (32 ∷ decimal k) ++ (10 ∷ [])
 unfoldable pub brokenText : ℕ → List ℕ
 brokenText at = (0x62 ∷ 0x72 ∷ 0x6F ∷ 0x6B ∷ 0x65 ∷ 0x6E ∷ 0x20 ∷ 0x61 ∷ 0x74 ∷ []) ++ (32 ∷ decimal at) ++ (10 ∷ [])
 
--- the lines from place `at` on, after k records; a cache of n octets has at most n records
-abbrev pub lineAt : Record → ℕ → ℕ → (ℕ → ℕ → List ℕ) → List ℕ → List ℕ
-lineAt (Got start stop) k at more l = rowOf (suc k) (part l start (stop - start)) ++ more (suc k) stop
-lineAt Broken k at more l = brokenText at
-lineAt End k at more l = endText k
+-- the lines of a walk over l, after k records: a row for each, and a last line by how it ended
+unfoldable pub linesFor : ℕ → List ℕ → List Piece → Ending → List ℕ
+linesFor k l [] whole = endText k
+linesFor k l [] (broken at) = brokenText at
+linesFor k l (p ∷ ps) e = rowOf (k + 1) (content l p) ++ linesFor (k + 1) l ps e
 
-unfoldable pub linesFrom : ℕ → List ℕ → ℕ → ℕ → List ℕ
-linesFrom zero l k at = []
-linesFrom (suc n) l k at = lineAt (recordAt l at) k at (linesFrom n l) l
+abbrev pub linesOf : ℕ → List ℕ → Walked → List ℕ
+linesOf k l w = linesFor k l (w .pieces) (w .ending)
 
 -- the whole output
 unfoldable pub listed : List ℕ → List ℕ
-listed l = heading ++ linesFrom (suc (length l)) l 0 0
+listed l = heading ++ linesOf 0 l (walk l)
+
+-- the lines from place `at` on, after k records
+abbrev pub linesFrom : ℕ → List ℕ → ℕ → List ℕ
+linesFrom k l at = linesOf k l (walkOn l at)
 
 -- The rows of the records of the block l from `at` on, after k records, fill the first `used` octets of a page, up to record `seen`, which ends before `next`:
--- in every file that has this block, what the page holds and then the lines from `next` on are the lines from `at` on. A row has at most 80 octets, a record
--- at least one.
+-- in every file that has this block, what the page holds and then the lines from `next` on are the lines from `at` on, and as many records fewer are left
+-- as were listed. A row has at most 80 octets, a record at least one.
 pub record Rowed (l : List ℕ) (at k : ℕ) (page : List ℕ) (next seen used : ℕ) : Type 0 where
   pub inside : next ≤ length l
   pub later : k ≤ seen
   pub apart : seen + at ≤ next + k
   pub within : used ≤ length page
   pub short : used + 80 * k ≤ 80 * seen
-  pub lines : (front behind : List ℕ) (n : ℕ)
-      → linesFrom (n + seen) (front ++ (l ++ behind)) k (length front + at) ≡ take used page ++ linesFrom (n + k) (front ++ (l ++ behind)) seen (length front + next)
+  pub lines : (front behind : List ℕ)
+      → linesFrom k (front ++ (l ++ behind)) (length front + at) ≡ take used page ++ linesFrom seen (front ++ (l ++ behind)) (length front + next)
+  pub counted : (front behind : List ℕ)
+      → k + length (walkOn (front ++ (l ++ behind)) (length front + at) .pieces) ≡ seen + length (walkOn (front ++ (l ++ behind)) (length front + next) .pieces)
 
 -- Such rows, as far as r says: the page is full, so that no row more surely fits, or no whole record stands next.
 pub record Listed (l : List ℕ) (at k : ℕ) (page : List ℕ) (r : Rows) : Type 0 where

@@ -1,11 +1,11 @@
 -- What stands at a place of a cache, case by case, as the code finds it. Assumes nothing.
 use Prim.Native.Nat.{ℕ, _+_, _<_, _≤_}
-use mathlib.Core.Path.{_≡_, refl}
+use mathlib.Core.Path.{_≡_, refl, sym, ap}
 use mathlib.Core.Bool.{Bool, true, false}
 use mathlib.Core.Logic.{_≢_}
 use mathlib.Core.List.{List}
 use native.Mathlib.Omega.{arith}
-use borrow.Author.Tests.{le-leb, lt-leb, lt-ltb, le-ltb, eq-eqb, ne-eqb, ltb-false, eqb-true}
+use borrow.Author.Tests.{le-leb, lt-leb, lt-ltb, le-ltb, eq-eqb, ne-eqb, ltb-false, eqb-true, leb-true}
 use lib.Dec.{leb, ltb, eqb}
 use lib.ListN.{length}
 use Rattle.octets.specs.Octets.{part, be}
@@ -51,21 +51,30 @@ module _ (l : List ℕ) where
   unfolding announced
   announces h e = simp (le-ltb _ _ h, eq-eqb _ _ e)
 
--- ---- what a found record says of the cache
+-- ---- what a found record, and the end, say of the cache
 
-first-not : (t : Bool) (x y : Record) {z : Record} → pick t x y ≡ z → (x ≡ z → ⊥) → (t ≡ false) × (y ≡ z)
-first-not true x y e n = absurd (n e)
-first-not false x y e n = (refl, e)
+abbrev sort : Record → ℕ
+sort (Got a b) = 0
+sort Broken = 1
+sort End = 2
 
-second-not : (t : Bool) (x y : Record) {z : Record} → pick t x y ≡ z → (y ≡ z → ⊥) → (t ≡ true) × (x ≡ z)
-second-not true x y e n = (refl, e)
-second-not false x y e n = absurd (n e)
+module _ (a b : ℕ) where
+  abbrev tested : Bool → Bool → Bool → Bool → Record
+  tested t u v w = pick t End (pick u Broken (pick v (pick w Broken (Got a b)) Broken))
 
-no-end : {a b : ℕ} → End ≡ Got a b → ⊥
-no-end e = let z : _≡_ {A = ℕ} 0 1 = cc in omega arith
+  tested-got : (t u v w : Bool) {c d : ℕ} → tested t u v w ≡ Got c d → (v ≡ true) × (w ≡ false) × (a ≡ c) × (b ≡ d)
+  tested-got true u v w e = absurd (omega (arith, ap sort e))
+  tested-got false true v w e = absurd (omega (arith, ap sort e))
+  tested-got false false true true e = absurd (omega (arith, ap sort e))
+  tested-got false false true false e = (refl, refl, cc, cc)
+  tested-got false false false w e = absurd (omega (arith, ap sort e))
 
-no-break : {a b : ℕ} → Broken ≡ Got a b → ⊥
-no-break e = let z : _≡_ {A = ℕ} 0 1 = cc in omega arith
+  tested-end : (t u v w : Bool) → tested t u v w ≡ End → t ≡ true
+  tested-end true u v w e = refl
+  tested-end false true v w e = absurd (omega (arith, ap sort e))
+  tested-end false false true true e = absurd (omega (arith, ap sort e))
+  tested-end false false true false e = absurd (omega (arith, ap sort e))
+  tested-end false false false w e = absurd (omega (arith, ap sort e))
 
 pub record Stands (l : List ℕ) (at a b : ℕ) : Type 0 where
   pub marked : be (part l at 2) ≡ mark
@@ -73,15 +82,14 @@ pub record Stands (l : List ℕ) (at a b : ℕ) : Type 0 where
   pub stop : b ≡ a + be (part l (at + 2) 2)
   pub room : b ≤ length l
 
-pub got-stands : (l : List ℕ) (at : ℕ) {a b : ℕ} → recordAt l at ≡ Got a b → Stands l at a b
-unfolding recordAt
-got-stands l at {a} {b} e =
-    let n : ℕ = be (part l (at + 2) 2) in
-    let p = first-not (leb (length l) at) End _ e no-end in
-    let q = first-not (ltb (length l) (at + 4)) Broken _ (p .1) no-break in
-    let r = second-not (eqb (be (part l at 2)) mark) _ Broken (q .1) no-break in
-    let s = first-not (ltb (length l) (at + 4 + n)) Broken (Got (at + 4) (at + 4 + n)) (r .1) no-break in
-    let h : at + 4 + n ≤ length l = ltb-false (length l) (at + 4 + n) (s .0) in
-    let x : at + 4 ≡ a = cc (s .1) in
-    let y : at + 4 + n ≡ b = cc (s .1) in
-    record { marked = eqb-true (be (part l at 2)) mark (r .0); start = omega arith; stop = omega arith; room = omega arith }
+module _ (l : List ℕ) (at : ℕ) where
+  pub got-stands : {a b : ℕ} → recordAt l at ≡ Got a b → Stands l at a b
+  unfolding recordAt
+  got-stands {a} {b} e =
+      let n : ℕ = be (part l (at + 2) 2) in
+      let (v, w, x, y) = tested-got (at + 4) (at + 4 + n) (leb (length l) at) (ltb (length l) (at + 4)) (eqb (be (part l at 2)) mark) (ltb (length l) (at + 4 + n)) e in
+      record { marked = eqb-true (be (part l at 2)) mark v; start = sym x; stop = omega arith; room = omega (arith, ltb-false (length l) (at + 4 + n) w) }
+
+  pub end-past : recordAt l at ≡ End → length l ≤ at
+  unfolding recordAt
+  end-past e = leb-true (length l) at (tested-end _ _ (leb (length l) at) (ltb (length l) (at + 4)) (eqb (be (part l at 2)) mark) (ltb (length l) (at + 4 + be (part l (at + 2) 2))) e)

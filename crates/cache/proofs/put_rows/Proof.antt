@@ -44,47 +44,29 @@ same-length-2 c = search needs
 
 returns : tie.Need-returns Inv-loop μ-loop
 returns c =
-    let l = c .before .before .before in
-    let a = l .before .before .before .before .args in
     let r = c .before in
-    when-none (now (a .block)) (a .at) (a .seen) (l .loop .inv .0)
+    when-none (r .before .before .loop .inv .0)
     (λ x y e. miss (1 ∷ 2 ∷ []) 0 tt (subst (λ (v : Record). OneOf (1 ∷ 2 ∷ []) (tagOf the-type v)) (r .record-at .ensures ∙ e) (c .match .keys2)))
 
 add-count : tie.Need-add-count Inv-loop μ-loop
 add-count c =
     let s = c .before in
-    let r = s .before .before in
-    let l = r .before .before in
-    let a = l .before .before .before .before .args in
-    let h = got-stands (now (a .block)) (l .loop .next) (sym (r .record-at .ensures) ∙ s .start .given .1) in
-    omega (arith, h .start, h .stop, h .room, l .loop .inv .0 .apart)
+    omega (arith, got-stands _ _ (sym (s .before .before .record-at .ensures) ∙ s .start .given .1), s .before .before .before .before .loop .inv .0 .apart)
 
 sub-put-row : tie.Need-sub-put-row Inv-loop μ-loop
 sub-put-row c =
     let s = c .before in
-    let r = s .before .before in
-    let l = r .before .before in
-    let a = l .before .before .before .before .args in
-    let h = got-stands (now (a .block)) (l .loop .next) (sym (r .record-at .ensures) ∙ s .start .given .1) in
-    omega (arith, h .start, h .stop, h .room)
+    omega (arith, got-stands _ _ (sym (s .before .before .record-at .ensures) ∙ s .start .given .1))
 
 part-put-row-start : tie.Need-part-put-row-start Inv-loop μ-loop
 part-put-row-start c =
     let s = c .before in
-    let r = s .before .before in
-    let l = r .before .before in
-    let a = l .before .before .before .before .args in
-    let h = got-stands (now (a .block)) (l .loop .next) (sym (r .record-at .ensures) ∙ s .start .given .1) in
-    omega (arith, h .start, h .stop, h .room)
+    omega (arith, got-stands _ _ (sym (s .before .before .record-at .ensures) ∙ s .start .given .1))
 
 part-put-row-end : tie.Need-part-put-row-end Inv-loop μ-loop
 part-put-row-end c =
     let s = c .before in
-    let r = s .before .before in
-    let l = r .before .before in
-    let a = l .before .before .before .before .args in
-    let h = got-stands (now (a .block)) (l .loop .next) (sym (r .record-at .ensures) ∙ s .start .given .1) in
-    omega (arith, h .start, h .stop, h .room)
+    omega (arith, got-stands _ _ (sym (s .before .before .record-at .ensures) ∙ s .start .given .1))
 
 put-row-requires : tie.Need-put-row-requires Inv-loop μ-loop
 put-row-requires c κs = search needs
@@ -92,20 +74,14 @@ put-row-requires c κs = search needs
 loop-less : tie.Need-loop-less Inv-loop μ-loop
 loop-less c =
     let s = c .before .before .before .before .before .before .before .before .before in
-    let r = s .before .before in
-    let l = r .before .before in
-    let a = l .before .before .before .before .args in
-    let h = got-stands (now (a .block)) (l .loop .next) (sym (r .record-at .ensures) ∙ s .start .given .1) in
-    omega (arith, h .start, h .stop, h .room)
+    omega (arith, got-stands _ _ (sym (s .before .before .record-at .ensures) ∙ s .start .given .1))
 
 loop-again : tie.Need-loop-again Inv-loop μ-loop
 loop-again c =
     let s = c .before .before .before .before .before .before .before .before .before in
     let r = s .before .before in
-    let l = r .before .before in
-    let a = l .before .before .before .before .args in
     let p = c .before .before .before .before in
-    (turn (now (a .block)) (a .at) (a .seen) (l .loop .inv .0) (sym (r .record-at .ensures) ∙ s .start .given .1) (p .put-row .ensures), search needs, search needs)
+    (turn (r .before .before .loop .inv .0) (sym (r .record-at .ensures) ∙ s .start .given .1) (p .put-row .ensures), search needs, search needs)
 
 same-length-3 : tie.Need-same-length-3 Inv-loop μ-loop
 same-length-3 c = search needs
@@ -114,10 +90,7 @@ same-length-4 : tie.Need-same-length-4 Inv-loop μ-loop
 same-length-4 c = search needs
 
 returns-2 : tie.Need-returns-2 Inv-loop μ-loop
-returns-2 c =
-    let l = c .before in
-    let a = l .before .before .before .before .args in
-    when-full (now (a .block)) (a .at) (a .seen) (l .loop .inv .0) (omega (arith, c .loop-test))
+returns-2 c = when-full (c .before .loop .inv .0) (omega (arith, c .loop-test))
 
 pub put-rows-spec : {M : Type 1} → statement M
 put-rows-spec =
