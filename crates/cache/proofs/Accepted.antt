@@ -16,7 +16,8 @@ use Rattle.reference.specs.Meaning.{Reference, tapsOf, namesOf, extrasOf, sum}
 use Rattle.reference.specs.Steps.{Answer, ok, refused, need, checked, number, run, after, done, many, ending}
 use Rattle.reference.specs.Places.{place-profile-count, place-reference-leftover}
 use Rattle.reference.specs.Reader.{roomy, readCount, readProfile, readReference, readWhole, answered}
-use Rattle.reference.specs.Questions.{Kind, kindOf}
+use Rattle.reference.specs.declared.ObjectKind.{ObjectKind}
+use Rattle.reference.specs.Questions.{kindOf}
 use Rattle.reference.proofs.Laws.{guard-ok, pass-ok, followed-ok}
 use Rattle.table.specs.Filed.{referenceFiled}
 use Rattle.reading.specs.Into.{ReadInto, tableLeft}
@@ -96,10 +97,10 @@ module _ (s : List ℕ) {t e : List ℕ} {r : Told} (h : ReadInto (readWhole s) 
     pub view-inside : getD e 0 0 + getD e 1 0 ≤ length s
     view-inside = omega (arith, type-id-at, type-id-long, type-id-stands s (meaning .1) .0)
 
-    pub row-found : {d : Kind} → d ≡ kindOf (part s (getD e 0 0) (getD e 0 0 + getD e 1 0 - getD e 0 0)) → foundText d (getD e 2 0) ≡ answerText (readWhole s)
+    pub row-found : {d : ObjectKind} → d ≡ kindOf (part s (getD e 0 0) (getD e 0 0 + getD e 1 0 - getD e 0 0)) → foundText d (getD e 2 0) ≡ answerText (readWhole s)
     unfolding answerText
     row-found {d} p =
         let m : Reference = meaning .0 in
         let shown : part s (getD e 0 0) (getD e 0 0 + getD e 1 0 - getD e 0 0) ≡ m .typeId =
         rw (type-id-at, type-id-long) (ap (part s 4) (add-sub-cancel-left 4 (length (m .typeId))) ∙ type-id-stands s (meaning .1) .1) in
-        ap (λ (x : Kind). foundText x (getD e 2 0)) (p ∙ ap kindOf shown) ∙ ap (foundText (kindOf (m .typeId))) profiles-used ∙ ap answerText (sym (meaning .1))
+        ap (λ (x : ObjectKind). foundText x (getD e 2 0)) (p ∙ ap kindOf shown) ∙ ap (foundText (kindOf (m .typeId))) profiles-used ∙ ap answerText (sym (meaning .1))

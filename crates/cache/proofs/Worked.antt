@@ -10,6 +10,7 @@ use Rattle.reference.specs.Questions.{kindNumbered, kindOf}
 use Rattle.reference.specs.Worked.{j}
 use Rattle.records.specs.Records.{layoutRecord, recordAt}
 use Rattle.records.specs.Walk.{walkFrom, walkOn}
+use Rattle.lines.specs.Lines.{kindText}
 use Rattle.cache.specs.Rows.{foundText, refusedText, answerText, rowOf, heading, endText, brokenText, linesFor, listed}
 
 -- 00000003 00000000
@@ -22,7 +23,7 @@ rows =
     49 ∷ 32 ∷ 52 ∷ 50 ∷ 32 ∷ 115 ∷ 114 ∷ 103 ∷ 32 ∷ 49 ∷ 32 ∷ 48 ∷ 10 ∷ 50 ∷ 32 ∷ 56 ∷ 32 ∷ 45 ∷ 32 ∷ 45 ∷ 32 ∷ 52 ∷ 10 ∷ 101 ∷ 110 ∷ 100 ∷ 32 ∷ 50 ∷ 10 ∷ []
 
 pub example : listed (layoutRecord j ++ layoutRecord odd) ≡ heading ++ rows
-unfolding be octets digitsIn decimal hex hexes done need number checked run rest choose ending within fits apart many after readCount readRun readNamed component readFixed readExtra readTap readLocation readObjectLocation readBinder readBiop readAddress readName readContext readService readLite readBody readProfile readReference readWhole kindNumbered kindOf layoutRecord recordAt foundText refusedText answerText rowOf endText brokenText walkFrom walkOn linesFor listed
+unfolding be octets digitsIn decimal hex hexes done need number checked run rest choose ending within fits apart many after readCount readRun readNamed component readFixed readExtra readTap readLocation readObjectLocation readBinder readBiop readAddress readName readContext readService readLite readBody readProfile readReference readWhole kindNumbered kindOf kindText layoutRecord recordAt foundText refusedText answerText rowOf endText brokenText walkFrom walkOn linesFor listed
 example = refl
 
 -- nothing: `end 0`; a remainder under four octets: `broken at 0`

@@ -4,28 +4,20 @@ use mathlib.Core.Path.{_≡_}
 use mathlib.Core.Bool.{true, false}
 use mathlib.Core.List.{List, [], _∷_, _++_}
 use lib.ListN.{length, take}
-use Rattle.octets.specs.Octets.{octets}
-use Rattle.text.specs.Text.{decimal, hexes}
+use Rattle.text.specs.Text.{decimal}
 use Rattle.reference.specs.Meaning.{Reference}
 use Rattle.reference.specs.Steps.{Answer, ok, refused}
 use Rattle.reference.specs.Reader.{readWhole}
-use Rattle.reference.specs.Questions.{Kind, directory, file, stream, serviceGateway, streamEvent, unknown, kindOf, dir, fil, str, srg, ste}
+use Rattle.reference.specs.declared.ObjectKind.{ObjectKind}
+use Rattle.reference.specs.Questions.{kindOf}
+use Rattle.lines.specs.Lines.{kindText}
 use Rattle.records.specs.declared.Record.the-variants.{Got}
 use Rattle.cache.specs.declared.Rows.{Rows}
 use Rattle.records.specs.Records.{recordAt}
 use Rattle.records.specs.Walk.{Piece, Ending, whole, broken, Walked, walk, walkOn, content}
 
--- three letters, or eight lowercase hexadecimal digits
-abbrev pub kindText : Kind → List ℕ
-kindText directory = take 3 dir
-kindText file = take 3 fil
-kindText stream = take 3 str
-kindText serviceGateway = take 3 srg
-kindText streamEvent = take 3 ste
-kindText (unknown n) = hexes (octets 4 n)
-
 -- kind, number of profiles and 0
-unfoldable pub foundText : Kind → ℕ → List ℕ
+unfoldable pub foundText : ObjectKind → ℕ → List ℕ
 foundText k n = kindText k ++ (32 ∷ decimal n) ++ (32 ∷ 48 ∷ [])
 
 -- `- -` and the refusal's number

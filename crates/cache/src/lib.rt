@@ -4,40 +4,25 @@ ghost use Prim.Native.Nat.{_+_, _≤_, _<_};
 ghost use lib.ListN.{length};
 ghost use Rattle.text.specs.Written.{Written};
 ghost use Rattle.reference.specs.Reader.{readWhole};
-ghost use Rattle.questions.specs.Told.{kindTold};
-ghost use Rattle.cache.specs.Rows.{heading, rowOf, endText, brokenText, kindText, foundText, refusedText, answerText, Listed};
-use questions::ObjectKind;
+ghost use Rattle.cache.specs.Rows.{heading, rowOf, endText, brokenText, foundText, refusedText, answerText, Listed};
+use lines::put_kind;
 use questions::object_kind;
 use reading::read_whole_into;
 use records::Record;
 use records::record_at;
 use reference::Answer;
+use reference::ObjectKind;
 use text::put_decimal;
-use text::put_hex32;
 use text::put_octet;
 use text::put_spaced;
 use text::put_word;
 
-fn put_kind(kind: ObjectKind, out: &mut [u8], at: usize) -> usize
-    requires { ⌜ at + 8 ≤ length (now out) ⌝ }
-    ensures { λ r. ⌜ Written (now (out .entry)) at 8 (kindText (kindTold kind)) (now (out .exit)) r ⌝ }
-{
-    match kind {
-        ObjectKind::Directory => put_word(out, at, b"dir"),
-        ObjectKind::File => put_word(out, at, b"fil"),
-        ObjectKind::Stream => put_word(out, at, b"str"),
-        ObjectKind::ServiceGateway => put_word(out, at, b"srg"),
-        ObjectKind::StreamEvent => put_word(out, at, b"ste"),
-        ObjectKind::Unknown(n) => put_hex32(out, at, n),
-    }
-}
-
 // What an accepted reference's row says: kind, number of profiles and 0.
 fn put_found(kind: ObjectKind, profiles: u32, out: &mut [u8], at: usize) -> usize
     requires { ⌜ at + 31 ≤ length (now out) ⌝ }
-    ensures { λ r. ⌜ Written (now (out .entry)) at 31 (foundText (kindTold kind) profiles) (now (out .exit)) r ⌝ }
+    ensures { λ r. ⌜ Written (now (out .entry)) at 31 (foundText kind profiles) (now (out .exit)) r ⌝ }
 {
-    let count = put_kind(kind, out, at);
+    let count = put_kind(out, at, kind);
     let zero = put_spaced(out, count, profiles as u64);
     put_word(out, zero, b" 0")
 }

@@ -2,9 +2,9 @@
 // Each function that says something answers whether it could be written.
 use libc::STDOUT_FILENO;
 use outcome::tell_written;
-use questions::FirstBiop;
-use questions::ObjectKind;
 use reference::Answer;
+use reference::FirstBiop;
+use reference::ObjectKind;
 use reference::ObjectLocation;
 use reference::Refusal;
 use reference::Tables;

@@ -34,11 +34,9 @@ use Rattle.reference.specs.Questions.{kindOf, tapNumbersOf, firstBiop, dvbAddre
 use Rattle.reference.specs.Names.{readShortName, shortAt}
 use Rattle.reading.proofs.Determined as reading
 use Rattle.writing.proofs.Determined as writing
-use Rattle.questions.specs.declared.ObjectKind.{ObjectKind}
-use Rattle.questions.specs.declared.TapNumbers.{TapNumbers}
-use Rattle.questions.specs.declared.FirstBiop.{FirstBiop}
-use Rattle.questions.specs.Told.{kindTold, numbersTold, firstTold}
-use Rattle.questions.proofs.Promises as questions
+use Rattle.reference.specs.declared.ObjectKind.{ObjectKind}
+use Rattle.reference.specs.declared.TapNumbers.{TapNumbers}
+use Rattle.reference.specs.declared.FirstBiop.{FirstBiop}
 use Rattle.names.specs.declared.ShortNameRead.{ShortNameRead}
 use Rattle.names.specs.Told.{shortTold}
 use Rattle.names.specs.Writes as Short
@@ -153,17 +151,17 @@ determined-image-length t s r r′ p q = writing.length-determined t s p q
 pub determined-write : (t : Tables) (s d : List ℕ) (r r′ : Told) (e e′ : List ℕ) → Writes t s d r e → Writes t s d r′ e′ → (r ≡ r′) × (e ≡ e′)
 determined-write t s d r r′ e e′ p q = writing.write-determined p q
 
-pub determined-object-kind : (l : List ℕ) (r r′ : ObjectKind) → kindTold r ≡ kindOf l → kindTold r′ ≡ kindOf l → r ≡ r′
-determined-object-kind l r r′ p q = questions.kind-determined l r r′ p q
+pub determined-object-kind : (l : List ℕ) (r r′ : ObjectKind) → r ≡ kindOf l → r′ ≡ kindOf l → r ≡ r′
+determined-object-kind l r r′ p q = p ∙ sym q
 
-pub determined-tap-numbers : (uses : ℕ) (l : List ℕ) (r r′ : TapNumbers) → numbersTold r ≡ tapNumbersOf uses l → numbersTold r′ ≡ tapNumbersOf uses l → r ≡ r′
-determined-tap-numbers uses l r r′ p q = questions.numbers-determined uses l r r′ p q
+pub determined-tap-numbers : (uses : ℕ) (l : List ℕ) (r r′ : TapNumbers) → r ≡ tapNumbersOf uses l → r′ ≡ tapNumbersOf uses l → r ≡ r′
+determined-tap-numbers uses l r r′ p q = p ∙ sym q
 
-pub determined-first-biop : (t : Tables) (r r′ : FirstBiop) → firstTold r ≡ firstBiop t → firstTold r′ ≡ firstBiop t → r ≡ r′
-determined-first-biop t r r′ p q = questions.first-determined t r r′ p q
+pub determined-first-biop : (t : Tables) (r r′ : FirstBiop) → r ≡ firstBiop t → r′ ≡ firstBiop t → r ≡ r′
+determined-first-biop t r r′ p q = p ∙ sym q
 
 pub determined-is-dvb : (a : List ℕ) (r r′ : Bool) → r ≡ dvbAddress a → r′ ≡ dvbAddress a → r ≡ r′
-determined-is-dvb a r r′ p q = questions.dvb-determined a r r′ p q
+determined-is-dvb a r r′ p q = p ∙ sym q
 
 pub determined-read-short-name : (s : List ℕ) (r r′ : ShortNameRead) → shortTold r ≡ seen shortAt (readShortName s) → shortTold r′ ≡ seen shortAt (readShortName s) → r ≡ r′
 determined-read-short-name s r r′ p q = names.reading-determined s r r′ p q

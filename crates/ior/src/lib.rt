@@ -9,19 +9,18 @@ ghost use Rattle.reference.specs.Questions.{kindOf, tapNumbersOf, firstBiop, dv
 ghost use Rattle.reference.specs.Names.{readShortName, shortAt};
 ghost use Rattle.reading.specs.Into.{ReadInto};
 ghost use Rattle.writing.specs.Writes.{Writes};
-ghost use Rattle.questions.specs.Told.{kindTold, numbersTold, firstTold};
 ghost use Rattle.names.specs.Told.{shortTold};
 ghost use Rattle.names.specs.Writes as Short;
 ghost use Rattle.ior.specs.Lent.{measuredFrom, WritesFrom};
 use exact::is_exact;
 use names::ShortNameRead;
-use questions::FirstBiop;
-use questions::ObjectKind;
-use questions::TapNumbers;
 use reference::Answer;
+use reference::FirstBiop;
 use reference::NameComponent;
+use reference::ObjectKind;
 use reference::Reading;
 use reference::Tables;
+use reference::TapNumbers;
 use reference::wrong;
 
 // A table of 490 numbers; crate table says which number is what.
@@ -105,21 +104,21 @@ pub fn write_from(table: &FlatTable, src: &[u8], out: &mut [u8]) -> Answer
 
 // The kind of object that a type id's octets name; never refused.
 pub fn object_kind(type_id: &[u8]) -> ObjectKind
-    ensures { λ r. ⌜ kindTold r ≡ kindOf (now («type_id» .entry)) ⌝ }
+    ensures { λ r. ⌜ r ≡ kindOf (now («type_id» .entry)) ⌝ }
 {
     questions::object_kind(type_id)
 }
 
 // A tap's transaction id and timeout, of its use and its selector's octets: both or neither; never refused.
 pub fn tap_numbers(use_: u16, selector: &[u8]) -> TapNumbers
-    ensures { λ r. ⌜ numbersTold r ≡ tapNumbersOf «use_» (now (selector .entry)) ⌝ }
+    ensures { λ r. ⌜ r ≡ tapNumbersOf «use_» (now (selector .entry)) ⌝ }
 {
     questions::tap_numbers(use_, selector)
 }
 
 // The index of the first BIOP profile, or none; 8 with place 40 if more than 8 profiles are used.
 pub fn first_biop(t: Tables) -> FirstBiop
-    ensures { λ r. ⌜ firstTold r ≡ firstBiop t ⌝ }
+    ensures { λ r. ⌜ r ≡ firstBiop t ⌝ }
 {
     questions::first_biop(t)
 }

@@ -18,7 +18,8 @@ use Rattle.reference.specs.declared.Profile.{Profile as Entry}
 use Rattle.reference.specs.Steps.{pick}
 use Rattle.reference.specs.Refusals.{refusal}
 use Rattle.reference.specs.Tabled.{noProfile}
-use Rattle.reference.specs.Questions.{index, nothing, refuses, isBiop, firstFrom, firstBiop}
+use Rattle.reference.specs.declared.FirstBiop.the-variants as Firsts
+use Rattle.reference.specs.Questions.{isBiop, firstFrom, firstBiop}
 use Rattle.reference.proofs.Asked.{picks-first, picks-second}
 use Rattle.table.specs.Region.{chunks}
 use Rattle.table.specs.Flat.{tablesFrom, profileFrom, bodyFrom, locationFrom, addressFrom, viewFrom}
@@ -69,7 +70,7 @@ abbrev pub profilesIn : List ℕ → List Entry
 profilesIn t = chunks profileFrom 10 8 (drop 6 t)
 
 module _ (t : List ℕ) where
-  pub too-many : 8 < getD t 2 0 → firstBiop (tablesFrom t) ≡ refuses (refusal 8 40 0 0)
+  pub too-many : 8 < getD t 2 0 → firstBiop (tablesFrom t) ≡ Firsts.Refused (refusal 8 40 0 0)
   unfolding tablesFrom
   too-many h = first-over (tablesFrom t) h
 
@@ -78,7 +79,7 @@ module _ (t : List ℕ) where
   starts h = first-within (tablesFrom t) h ∙ sym (first-start (profilesIn t) (getD t 2 0))
 
   module _ (i : ℕ) where
-    pub ends : getD t 2 0 ≤ i → firstFrom i (ahead (profilesIn t) (getD t 2 0) i) ≡ nothing
+    pub ends : getD t 2 0 ≤ i → firstFrom i (ahead (profilesIn t) (getD t 2 0) i) ≡ Firsts.Nothing
     ends h = first-end (profilesIn t) (getD t 2 0) i h
 
     module _ (h : i < getD t 2 0) (k : getD t 2 0 ≤ 8) where
@@ -88,7 +89,7 @@ module _ (t : List ℕ) where
       entry : getD (profilesIn t) i noProfile ≡ profileFrom (part t (6 + 10 * i) 10)
       entry = entry-get profileFrom 10 6 8 t i noProfile (omega arith)
 
-      pub found : getD (part t (6 + 10 * i) 10) 0 0 ≡ 1 → firstFrom i (ahead (profilesIn t) (getD t 2 0) i) ≡ index i
+      pub found : getD (part t (6 + 10 * i) 10) 0 0 ≡ 1 → firstFrom i (ahead (profilesIn t) (getD t 2 0) i) ≡ Firsts.At i
       found e =
           first-here (profilesIn t) (getD t 2 0) i h long
           (ap (λ (p : Entry). isBiop (p .body)) entry ∙ ap isBiop (body-biop (part t (6 + 10 * i) 10) e))

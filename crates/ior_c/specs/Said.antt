@@ -11,7 +11,12 @@ use Rattle.reference.specs.declared.NameComponent.{NameComponent}
 use Rattle.reference.specs.declared.Answer.{Answer as Told}
 use Rattle.reference.specs.declared.Answer.the-variants.{Count, Refused}
 use Rattle.reference.specs.Steps.{Answer, ok, refused, pick}
-use Rattle.reference.specs.Questions.{Kind, directory, file, stream, serviceGateway, streamEvent, unknown, TapTells, both, neither, First, index, nothing, refuses}
+use Rattle.reference.specs.declared.ObjectKind.{ObjectKind}
+use Rattle.reference.specs.declared.ObjectKind.the-variants.{Directory, File, Stream, ServiceGateway, StreamEvent, Unknown}
+use Rattle.reference.specs.declared.TapNumbers.{TapNumbers}
+use Rattle.reference.specs.declared.TapNumbers.the-variants.{Both, Neither}
+use Rattle.reference.specs.declared.FirstBiop.{FirstBiop}
+use Rattle.reference.specs.declared.FirstBiop.the-variants as Firsts
 use Rattle.table.specs.Flat.{nameNumbers}
 use Rattle.exact.specs.Exact.{exact}
 
@@ -49,31 +54,31 @@ tapAsked uses pair = leb uses 65535 && eqb pair 2
 
 -- ---- the questions
 
-abbrev pub kindNumber : Kind → ℕ
-kindNumber directory = 0
-kindNumber file = 1
-kindNumber stream = 2
-kindNumber serviceGateway = 3
-kindNumber streamEvent = 4
-kindNumber (unknown n) = 5
+abbrev pub kindNumber : ObjectKind → ℕ
+kindNumber Directory = 0
+kindNumber File = 1
+kindNumber Stream = 2
+kindNumber ServiceGateway = 3
+kindNumber StreamEvent = 4
+kindNumber (Unknown n) = 5
 
 -- a type id of four octets as a number
 unfoldable pub typeNumber : List ℕ → ℕ
 typeNumber l = pick (eqb (length l) 4) (be l) 0
 
-abbrev pub tapResult : TapTells → ℕ
-tapResult (both transaction timeout) = 1
-tapResult neither = 0
+abbrev pub tapResult : TapNumbers → ℕ
+tapResult (Both transaction timeout) = 1
+tapResult Neither = 0
 
-abbrev pub tapPair : TapTells → List ℕ
-tapPair (both transaction timeout) = transaction ∷ timeout ∷ []
-tapPair neither = 0 ∷ 0 ∷ []
+abbrev pub tapPair : TapNumbers → List ℕ
+tapPair (Both transaction timeout) = transaction ∷ timeout ∷ []
+tapPair Neither = 0 ∷ 0 ∷ []
 
 -- 8, one more than the last index, where there is none
-abbrev pub firstSaid : First → Told
-firstSaid (index i) = Count i
-firstSaid nothing = Count 8
-firstSaid (refuses x) = Refused x
+abbrev pub firstSaid : FirstBiop → Told
+firstSaid (Firsts.At i) = Count i
+firstSaid Firsts.Nothing = Count 8
+firstSaid (Firsts.Refused x) = Refused x
 
 abbrev pub truth : Bool → ℕ
 truth true = 1

@@ -6,7 +6,6 @@ ghost use mathlib.Core.Path.{_≡_};
 ghost use lib.ListN.{length};
 ghost use Rattle.reference.specs.Questions.{firstBiop};
 ghost use Rattle.table.specs.Flat.{tablesFrom, nameFrom, nameNumbers};
-ghost use Rattle.questions.specs.Told.{kindTold, numbersTold};
 ghost use Rattle.ior_c.specs.Calls.{IorRead, IorReadWhole, IorLength, IorWrite, IorKind, IorTap, IorFirstBiop, IorDvbAddress, IorNameRead, IorNameWrite};
 ghost use Rattle.ior_c.specs.Said.{numberOf, numbersOf, sized, askable, kindNumber, typeNumber, tapResult, tapPair, firstSaid};
 use entries::sort_at;
@@ -17,8 +16,6 @@ use names::read_short_name;
 use names::write_short_name;
 use octets::be32;
 use octets::copy;
-use questions::ObjectKind;
-use questions::TapNumbers;
 use questions::is_dvb;
 use questions::object_kind;
 use questions::tap_numbers;
@@ -28,7 +25,9 @@ use reading::read_leading_into;
 use reading::read_whole_into;
 use reference::Answer;
 use reference::NameComponent;
+use reference::ObjectKind;
 use reference::PROFILES;
+use reference::TapNumbers;
 use reference::View;
 use reference::wrong;
 use table::BIOP;
@@ -168,7 +167,7 @@ pub extern "C" fn ior_write(table: &[u32], s: &[u8], out: &mut [u8], answer: &mu
 
 // The number of a kind: dir, fil, str, srg, ste, unknown.
 fn kind_number(kind: ObjectKind) -> u32
-    ensures { λ r. ⌜ r ≡ kindNumber (kindTold kind) ⌝ }
+    ensures { λ r. ⌜ r ≡ kindNumber kind ⌝ }
 {
     match kind {
         ObjectKind::Directory => 0,
@@ -205,7 +204,7 @@ pub extern "C" fn ior_kind(type_id: &[u8], kind: &mut [u32]) -> u32
 // The two numbers in an array of two; 1 if the tap has them, 0 if it has neither, and zeros then.
 fn put_pair(found: TapNumbers, pair: &mut [u32]) -> u32
     requires { ⌜ length (now pair) ≡ 2 ⌝ }
-    ensures { λ r. ⌜ (r ≡ tapResult (numbersTold found)) × (now (pair .exit) ≡ tapPair (numbersTold found)) ⌝ }
+    ensures { λ r. ⌜ (r ≡ tapResult found) × (now (pair .exit) ≡ tapPair found) ⌝ }
 {
     match found {
         TapNumbers::Both {

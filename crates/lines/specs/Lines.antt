@@ -9,12 +9,12 @@ use Rattle.text.specs.Text.{decimal, hexes}
 use Rattle.reference.specs.declared.Refusal.{Refusal}
 use Rattle.reference.specs.declared.Answer.{Answer}
 use Rattle.reference.specs.declared.Answer.the-variants as Answers
-use Rattle.questions.specs.declared.ObjectKind.{ObjectKind}
-use Rattle.questions.specs.declared.ObjectKind.the-variants as Kinds
-use Rattle.questions.specs.declared.TapNumbers.{TapNumbers}
-use Rattle.questions.specs.declared.TapNumbers.the-variants as Numbers
-use Rattle.questions.specs.declared.FirstBiop.{FirstBiop}
-use Rattle.questions.specs.declared.FirstBiop.the-variants as Firsts
+use Rattle.reference.specs.declared.ObjectKind.{ObjectKind}
+use Rattle.reference.specs.declared.ObjectKind.the-variants as Kinds
+use Rattle.reference.specs.declared.TapNumbers.{TapNumbers}
+use Rattle.reference.specs.declared.TapNumbers.the-variants as Numbers
+use Rattle.reference.specs.declared.FirstBiop.{FirstBiop}
+use Rattle.reference.specs.declared.FirstBiop.the-variants as Firsts
 use Rattle.names.specs.declared.ShortNameRead.{ShortNameRead}
 use Rattle.names.specs.declared.ShortNameRead.the-variants as Reads
 

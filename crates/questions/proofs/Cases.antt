@@ -14,11 +14,12 @@ use Rattle.reference.specs.declared.Tables.{Tables}
 use Rattle.reference.specs.Places.{place-profiles}
 use Rattle.reference.specs.Refusals.{refusal}
 use Rattle.reference.specs.Tabled.{noProfile}
-use Rattle.reference.specs.Questions.{index, nothing, refuses, isBiop, firstFrom, firstBiop}
+use Rattle.reference.specs.declared.FirstBiop.the-variants.{At, Nothing, Refused}
+use Rattle.reference.specs.Questions.{isBiop, firstFrom, firstBiop}
 use Rattle.octets.proofs.Part.{part-cons}
 use Rattle.reference.proofs.Asked.{picks-first, picks-second}
 
-pub first-over : (t : Tables) → 8 < t .«profiles_used» → firstBiop t ≡ refuses (refusal 8 place-profiles 0 0)
+pub first-over : (t : Tables) → 8 < t .«profiles_used» → firstBiop t ≡ Refused (refusal 8 place-profiles 0 0)
 unfolding firstBiop
 first-over t h = picks-second _ _ _ (lt-leb _ _ h)
 
@@ -34,7 +35,7 @@ module _ (l : List Entry) (n i : ℕ) where
   abbrev pub ahead : List Entry
   ahead = part l i (n - i)
 
-  pub first-end : n ≤ i → firstFrom i ahead ≡ nothing
+  pub first-end : n ≤ i → firstFrom i ahead ≡ Nothing
   unfolding firstFrom
   first-end h = let e : n - i ≡ 0 = omega arith in ap (λ (k : ℕ). firstFrom i (part l i k)) e
 
@@ -42,7 +43,7 @@ module _ (l : List Entry) (n i : ℕ) where
     opens : ahead ≡ getD l i noProfile ∷ part l (i + 1) (n - (i + 1))
     opens = let e : n - i ≡ n - (i + 1) + 1 = omega arith in ap (part l i) e ∙ part-cons l i (n - (i + 1)) noProfile (omega arith)
 
-    pub first-here : isBiop (getD l i noProfile .body) ≡ true → firstFrom i ahead ≡ index i
+    pub first-here : isBiop (getD l i noProfile .body) ≡ true → firstFrom i ahead ≡ At i
     unfolding firstFrom
     first-here e = ap (firstFrom i) opens ∙ picks-first _ _ _ e
 

@@ -2,40 +2,18 @@
 // Each contract says what the answer is in the terms of reference's specs/Questions.
 use octets::be32;
 use octets::octet;
+use reference::FirstBiop;
 use reference::NsapAddress;
+use reference::ObjectKind;
 use reference::PLACE_PROFILES;
 use reference::PROFILES;
 use reference::Profile;
-use reference::Refusal;
 use reference::Tables;
 use reference::TaggedProfile;
+use reference::TapNumbers;
 use reference::wrong;
 ghost use mathlib.Core.Path.{_≡_};
 ghost use Rattle.reference.specs.Questions.{isBiop, kindNumbered, kindOf, tapNumbersOf, firstBiop, dvbAddress};
-ghost use Rattle.questions.specs.Told.{kindTold, numbersTold, firstTold};
-
-// The kind of an object; an unknown one with its four octets as a number.
-pub enum ObjectKind {
-    Directory,
-    File,
-    Stream,
-    ServiceGateway,
-    StreamEvent,
-    Unknown(u32),
-}
-
-// A tap's transaction id and timeout, which it has together or not at all.
-pub enum TapNumbers {
-    Both { transaction: u32, timeout: u32 },
-    Neither,
-}
-
-// The index of the first BIOP profile.
-pub enum FirstBiop {
-    At(usize),
-    Nothing,
-    Refused(Refusal),
-}
 
 // The five kinds: three letters and a zero octet.
 const DIR: u32 = 0x64697200;
@@ -51,7 +29,7 @@ const STE: u32 = 0x73746500;
 const USE_DELIVERY: u16 = 0x0016;
 
 fn kind_numbered(n: u32) -> ObjectKind
-    ensures { λ r. ⌜ kindTold r ≡ kindNumbered n ⌝ }
+    ensures { λ r. ⌜ r ≡ kindNumbered n ⌝ }
 {
     if n == DIR {
         return ObjectKind::Directory;
@@ -73,7 +51,7 @@ fn kind_numbered(n: u32) -> ObjectKind
 
 // The kind that a type id's octets name; never refused.
 pub fn object_kind(type_id: &[u8]) -> ObjectKind
-    ensures { λ r. ⌜ kindTold r ≡ kindOf (now («type_id» .entry)) ⌝ }
+    ensures { λ r. ⌜ r ≡ kindOf (now («type_id» .entry)) ⌝ }
 {
     if type_id.len() == 4 {
         return kind_numbered(be32(type_id, 0));
@@ -83,7 +61,7 @@ pub fn object_kind(type_id: &[u8]) -> ObjectKind
 
 // The two numbers that a tap of this use says in its selector's octets; never refused.
 pub fn tap_numbers(use_: u16, selector: &[u8]) -> TapNumbers
-    ensures { λ r. ⌜ numbersTold r ≡ tapNumbersOf «use_» (now (selector .entry)) ⌝ }
+    ensures { λ r. ⌜ r ≡ tapNumbersOf «use_» (now (selector .entry)) ⌝ }
 {
     if use_ != USE_DELIVERY {
         return TapNumbers::Neither;
@@ -121,7 +99,7 @@ fn is_biop(p: Profile) -> bool
 
 // The first BIOP profile among the used ones; 8 if more are used than the table has.
 pub fn first_biop(t: Tables) -> FirstBiop
-    ensures { λ r. ⌜ firstTold r ≡ firstBiop t ⌝ }
+    ensures { λ r. ⌜ r ≡ firstBiop t ⌝ }
 {
     let used = t.profiles_used as usize;
     if PROFILES < used {

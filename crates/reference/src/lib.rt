@@ -117,6 +117,29 @@ pub enum Check {
     Refuse(Refusal),
 }
 
+// The kind of an object; an unknown one with its four octets as a number.
+pub enum ObjectKind {
+    Directory,
+    File,
+    Stream,
+    ServiceGateway,
+    StreamEvent,
+    Unknown(u32),
+}
+
+// A tap's transaction id and timeout, which it has together or not at all.
+pub enum TapNumbers {
+    Both { transaction: u32, timeout: u32 },
+    Neither,
+}
+
+// The index of the first BIOP profile.
+pub enum FirstBiop {
+    At(usize),
+    Nothing,
+    Refused(Refusal),
+}
+
 pub const PROFILES: usize = 8;
 
 pub const TAPS: usize = 36;

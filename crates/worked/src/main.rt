@@ -5,9 +5,8 @@ ghost use lib.ListN.{length};
 use libc::STDOUT_FILENO;
 use octets::put8;
 use octets::put32;
-use questions::ObjectKind;
-use questions::TapNumbers;
 use reference::Answer;
+use reference::ObjectKind;
 use reference::ObjectLocation;
 use reference::Profile;
 use reference::TAG_BIOP;
@@ -16,6 +15,7 @@ use reference::TAG_OBJECT_LOCATION;
 use reference::Tables;
 use reference::TaggedProfile;
 use reference::Tap;
+use reference::TapNumbers;
 use reference::View;
 use reference::no_tables;
 

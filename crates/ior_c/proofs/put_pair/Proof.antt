@@ -4,8 +4,6 @@ use native.Mathlib.Omega.{arith}
 use Rattle.octets.proofs.Splice.{one, more}
 use Rattle.ior_c.proofs.Answers.{covered, found}
 use Rattle.ior_c.specs.Said.{tapResult, tapPair}
-use Rattle.questions.specs.Told.{numbersTold}
-use Rattle.questions.specs.declared.TapNumbers.{TapNumbers}
 use borrow.Author.Needs.{needs}
 use Rattle.ior_c.proofs.put_pair.Statement.{statement}
 use Rattle.ior_c.proofs.put_pair.Tie as tie
@@ -36,7 +34,7 @@ returns c =
     let s = c .before .before .before in
     let d = s .args .pair .now in
     let e = c .before .found .given .1 in
-    (sym (ap (λ (x : TapNumbers). tapResult (numbersTold x)) e), more (one d 0 _ (omega arith)) _ (omega arith) .left ∙ covered d _ (sym (s .pre)) ∙ sym (ap (λ (x : TapNumbers). tapPair (numbersTold x)) e))
+    (sym (ap tapResult e), more (one d 0 _ (omega arith)) _ (omega arith) .left ∙ covered d _ (sym (s .pre)) ∙ sym (ap tapPair e))
 
 same-length-2 : tie.Need-same-length-2
 same-length-2 c = search needs
@@ -46,7 +44,7 @@ returns-2 c =
     let s = c .before .before in
     let d = s .args .pair .now in
     let e = c .enum-told .given .1 in
-    (sym (ap (λ (x : TapNumbers). tapResult (numbersTold x)) e), more (one d 0 0 (omega arith)) 0 (omega arith) .left ∙ covered d _ (sym (s .pre)) ∙ sym (ap (λ (x : TapNumbers). tapPair (numbersTold x)) e))
+    (sym (ap tapResult e), more (one d 0 0 (omega arith)) 0 (omega arith) .left ∙ covered d _ (sym (s .pre)) ∙ sym (ap tapPair e))
 
 pub put-pair-spec : {M : Type 1} → statement M
 put-pair-spec =

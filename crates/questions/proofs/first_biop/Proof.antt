@@ -5,7 +5,8 @@ use mathlib.Core.Path.{_≡_, sym, ap, _∙_}
 use native.Mathlib.Omega.{arith}
 use borrow.Author.Needs.{needs}
 use lib.ListN.{length, take}
-use Rattle.reference.specs.Questions.{refuses, firstFrom}
+use Rattle.reference.specs.declared.FirstBiop.the-variants.{Refused}
+use Rattle.reference.specs.Questions.{firstFrom}
 use Rattle.questions.proofs.Cases.{ahead, first-over, first-within, first-start, first-here, first-later, first-end}
 use Rattle.questions.proofs.first_biop.Statement.{statement}
 use Rattle.questions.proofs.first_biop.Tie as tie
@@ -23,7 +24,7 @@ wrong-requires : tie.Need-wrong-requires Inv-loop μ-loop
 wrong-requires c κs = search needs
 
 returns : tie.Need-returns Inv-loop μ-loop
-returns c = ap refuses (c .wrong .ensures) ∙ sym (first-over _ (c .before .if1 .taken))
+returns c = ap Refused (c .wrong .ensures) ∙ sym (first-over _ (c .before .if1 .taken))
 
 loop-holds : tie.Need-loop-holds Inv-loop μ-loop
 loop-holds c = let t = c .before .args .t1 in (omega arith, first-start (t .profiles) (t .«profiles_used»))
