@@ -1,10 +1,11 @@
 // Answers requests from standard input, whose name is the argument, a line for each, until the input ends; a bad request ends the run. docs/ANSWERS.md has the form of a
 // request and of a line.
 ghost use mathlib.Core.Path.{_≡_};
-ghost use Prim.Native.Nat.{_+_, _≤_};
+ghost use Prim.Native.Nat.{_*_, _≤_};
 ghost use lib.ListN.{length, replicate};
-ghost use Rattle.octets.specs.Octets.{be};
-ghost use Rattle.table.specs.Region.{chunks};
+ghost use Rattle.octets.specs.Octets.{be, part};
+ghost use Rattle.table.specs.Region.{listed};
+ghost use Rattle.table.specs.Flat.{tableSize, Lent};
 ghost use Rattle.io.specs.Counts.{Counts};
 use by_value::tables_of;
 use exact::is_exact;
@@ -34,10 +35,14 @@ use reading::read_whole_into;
 use reference::Answer;
 use reference::NameComponent;
 use reference::View;
+use table::SIZE;
 use table::clear;
 use text::put_octet;
 use text::put_word;
 use writing::write_from;
+
+// How many octets the numbers of a table have in a request.
+const TABLE_OCTETS: usize = 4 * SIZE;
 
 // What an output holds before a writing.
 const BEFORE: u8 = 0xA5;
@@ -129,11 +134,11 @@ fn take_source(src: &mut [u8]) -> Found
 
 // The numbers of a table, four octets each.
 fn put_numbers(octets: &[u8], table: &mut [u32])
-    requires { ⌜ (length (now octets) ≡ 1960) × (length (now table) ≡ 490) ⌝ }
-    ensures { λ r. ⌜ now (table .exit) ≡ chunks be 4 490 (now (octets .entry)) ⌝ }
+    requires { ⌜ (length (now octets) ≡ 4 * tableSize) × Lent (now table) ⌝ }
+    ensures { λ r. ⌜ now (table .exit) ≡ listed tableSize (λ i. be (part (now (octets .entry)) (4 * i) 4)) ⌝ }
 {
     let mut i: usize = 0;
-    while i < 490 {
+    while i < SIZE {
         table[i] = be32(octets, 4 * i);
         i += 1;
     }
@@ -141,9 +146,9 @@ fn put_numbers(octets: &[u8], table: &mut [u32])
 
 // A table from outside; none if it is cut or not exact.
 fn take_table(table: &mut [u32]) -> Found
-    requires { ⌜ length (now table) ≡ 490 ⌝ }
+    requires { ⌜ Lent (now table) ⌝ }
 {
-    let mut octets = [0u8; 1960];
+    let mut octets = [0u8; TABLE_OCTETS];
     let taken = take(&mut octets);
     if taken.is_none {
         return none(taken.is_failure);
@@ -152,7 +157,7 @@ fn take_table(table: &mut [u32]) -> Found
     if !is_exact(table) {
         return bad();
     }
-    counted(490)
+    counted(SIZE)
 }
 
 fn fill(out: &mut [u8])
@@ -170,7 +175,7 @@ fn fill(out: &mut [u8])
 
 // The line of a reading; a table of zeros is lent to it, so that its unused entries are zero.
 fn read_line(is_whole: bool, src: &[u8], table: &mut [u32], line: &mut [u8]) -> usize
-    requires { ⌜ (length (now table) ≡ 490) × (length (now line) ≡ 150000) ⌝ }
+    requires { ⌜ Lent (now table) × (length (now line) ≡ 150000) ⌝ }
     ensures { λ r. ⌜ r ≤ 149999 ⌝ }
 {
     clear(table);
@@ -180,7 +185,7 @@ fn read_line(is_whole: bool, src: &[u8], table: &mut [u32], line: &mut [u8]) -> 
 }
 
 fn read_by(is_whole: bool, src: &[u8], table: &mut [u32]) -> Answer
-    requires { ⌜ length (now table) ≡ 490 ⌝ }
+    requires { ⌜ Lent (now table) ⌝ }
 {
     if is_whole {
         return read_whole_into(src, table);
@@ -189,7 +194,7 @@ fn read_by(is_whole: bool, src: &[u8], table: &mut [u32]) -> Answer
 }
 
 fn answer_reading(is_whole: bool, table: &mut [u32], src: &mut [u8], line: &mut [u8]) -> Found
-    requires { ⌜ (length (now table) ≡ 490) × (length (now src) ≡ 70000) × (length (now line) ≡ 150000) ⌝ }
+    requires { ⌜ Lent (now table) × (length (now src) ≡ 70000) × (length (now line) ≡ 150000) ⌝ }
     ensures { λ r. ⌜ r .count ≤ 149999 ⌝ }
 {
     let taken = take_source(src);
@@ -201,7 +206,7 @@ fn answer_reading(is_whole: bool, table: &mut [u32], src: &mut [u8], line: &mut 
 }
 
 fn answer_length(table: &mut [u32], src: &mut [u8], line: &mut [u8]) -> Found
-    requires { ⌜ (length (now table) ≡ 490) × (length (now src) ≡ 70000) × (length (now line) ≡ 150000) ⌝ }
+    requires { ⌜ Lent (now table) × (length (now src) ≡ 70000) × (length (now line) ≡ 150000) ⌝ }
     ensures { λ r. ⌜ r .count ≤ 149999 ⌝ }
 {
     let numbers = take_table(table);
@@ -227,7 +232,7 @@ fn written_line(answer: Answer, out: &[u8], line: &mut [u8]) -> usize
 }
 
 fn write_line(table: &[u32], src: &[u8], out: &mut [u8], line: &mut [u8]) -> usize
-    requires { ⌜ (length (now table) ≡ 490) × (length (now out) ≤ 70000) × (length (now line) ≡ 150000) ⌝ }
+    requires { ⌜ Lent (now table) × (length (now out) ≤ 70000) × (length (now line) ≡ 150000) ⌝ }
     ensures { λ r. ⌜ r ≤ 149999 ⌝ }
 {
     fill(out);
@@ -236,7 +241,7 @@ fn write_line(table: &[u32], src: &[u8], out: &mut [u8], line: &mut [u8]) -> usi
 }
 
 fn answer_writing(table: &mut [u32], src: &mut [u8], out: &mut [u8], line: &mut [u8]) -> Found
-    requires { ⌜ (length (now table) ≡ 490) × (length (now src) ≡ 70000) × (length (now out) ≡ 70000) × (length (now line) ≡ 150000) ⌝ }
+    requires { ⌜ Lent (now table) × (length (now src) ≡ 70000) × (length (now out) ≡ 70000) × (length (now line) ≡ 150000) ⌝ }
     ensures { λ r. ⌜ r .count ≤ 149999 ⌝ }
 {
     let numbers = take_table(table);
@@ -348,7 +353,7 @@ fn answer_name_writing(src: &mut [u8], out: &mut [u8], line: &mut [u8]) -> Found
 }
 
 fn answer_first(table: &mut [u32], line: &mut [u8]) -> Found
-    requires { ⌜ (length (now table) ≡ 490) × (length (now line) ≡ 150000) ⌝ }
+    requires { ⌜ Lent (now table) × (length (now line) ≡ 150000) ⌝ }
     ensures { λ r. ⌜ r .count ≤ 149999 ⌝ }
 {
     let numbers = take_table(table);
@@ -375,7 +380,7 @@ fn answer_address(line: &mut [u8]) -> Found
 }
 
 fn answer(op: u8, table: &mut [u32], src: &mut [u8], out: &mut [u8], line: &mut [u8]) -> Found
-    requires { ⌜ (length (now table) ≡ 490) × (length (now src) ≡ 70000) × (length (now out) ≡ 70000) × (length (now line) ≡ 150000) ⌝ }
+    requires { ⌜ Lent (now table) × (length (now src) ≡ 70000) × (length (now out) ≡ 70000) × (length (now line) ≡ 150000) ⌝ }
     ensures { λ r. ⌜ r .count ≤ 149999 ⌝ }
 {
     match op {
@@ -432,7 +437,7 @@ fn end_line(line: &mut [u8], n: usize) -> Turn
 }
 
 fn serve(table: &mut [u32], src: &mut [u8], out: &mut [u8], line: &mut [u8]) -> Turn
-    requires { ⌜ (length (now table) ≡ 490) × (length (now src) ≡ 70000) × (length (now out) ≡ 70000) × (length (now line) ≡ 150000) ⌝ }
+    requires { ⌜ Lent (now table) × (length (now src) ≡ 70000) × (length (now out) ≡ 70000) × (length (now line) ≡ 150000) ⌝ }
 {
     let mut op = [0u8; 1];
     let begun = take(&mut op);
@@ -448,7 +453,7 @@ fn serve(table: &mut [u32], src: &mut [u8], out: &mut [u8], line: &mut [u8]) -> 
 
 // A proved loop has to end, and nothing says that the input does: it counts its turns down from a number that no run uses up.
 fn serve_all(table: &mut [u32], src: &mut [u8], out: &mut [u8], line: &mut [u8]) -> Outcome
-    requires { ⌜ (length (now table) ≡ 490) × (length (now src) ≡ 70000) × (length (now out) ≡ 70000) × (length (now line) ≡ 150000) ⌝ }
+    requires { ⌜ Lent (now table) × (length (now src) ≡ 70000) × (length (now out) ≡ 70000) × (length (now line) ≡ 150000) ⌝ }
 {
     let mut turns = u64::MAX;
     while turns > 0 {
@@ -462,7 +467,7 @@ fn serve_all(table: &mut [u32], src: &mut [u8], out: &mut [u8], line: &mut [u8])
 
 // The run, apart from the input's name, so that no array stands beside it.
 fn run() -> Outcome {
-    let mut table = [0u32; 490];
+    let mut table = [0u32; SIZE];
     let mut src = [0u8; 70000];
     let mut out = [0u8; 70000];
     let mut line = [0u8; 150000];

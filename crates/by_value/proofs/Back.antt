@@ -1,27 +1,32 @@
--- Tables that are laid flat and read back are the same tables, since owned tables keep to their types. Assumes nothing.
-use Prim.Native.Nat.{ℕ, _+_, _*_, _/_, _%_, _<_}
-use mathlib.Core.Path.{_≡_, refl, sym, ap, _∙_}
-use mathlib.Core.List.{List, [], _∷_, _++_, map, append-nil}
+-- Entries that were filed are told again, and what stands behind them is told as before, since entries keep to their types; so tables that are laid
+-- flat and read back are the same tables. Assumes nothing.
+use Prim.Native.Nat.{ℕ, zero, suc, _+_, _*_, _/_, _%_, _<_, _≤_}
+use mathlib.Core.Path.{_≡_, refl, sym, ap, ap₂, subst, _∙_}
+use mathlib.Core.List.{List, [], _∷_, _++_, map, map-map, append-nil}
 use native.Mathlib.Nat.{mod-eq-of-lt}
 use native.Mathlib.Omega.{arith}
-use lib.ListN.{length, drop, replicate}
-use lib.Seq.{drop-at, drop-append-add}
-use Rattle.octets.specs.Octets.{Each, joined}
+use lib.ListN.{length, drop, replicate, drop-of-length-le}
+use Rattle.octets.specs.Octets.{Each, part}
 use Rattle.reference.specs.declared.Tap.{Tap}
 use Rattle.reference.specs.declared.Profile.{Profile}
 use Rattle.reference.specs.declared.TaggedProfile.{TaggedProfile}
 use Rattle.reference.specs.declared.TaggedProfile.the-variants as Sort
 use Rattle.reference.specs.declared.Tables.{Tables}
+use Rattle.reference.specs.Used.{Used}
 use Rattle.reference.specs.Typed.{TapFits, BodyFits, EntryFits, Typed}
 use Rattle.reference.specs.Tabled.{filled, noTables}
-use Rattle.table.specs.Region.{chunks}
-use Rattle.table.specs.Flat.{bodyNumbers, tapNumbers, nameNumbers, extraNumbers, bodyWide, profileFrom, bodyFrom, tapFrom, nameFrom, extraFrom, tablesFrom, flat}
-use Rattle.table.proofs.Chunks.{chunks-append}
-use Rattle.by_value.proofs.Whole.{bodies-joined, bodies-wide, taps-wide, names-wide}
+use Rattle.table.specs.Region.{Region, entry, listed, rows}
+use Rattle.table.specs.Flat.{bodyNumbers, tapNumbers, nameNumbers, extraNumbers, profileRegion, tapRegion, nameRegion, extraRegion, tableSize, profileFrom, bodyFrom, tapFrom, nameFrom, extraFrom, tablesFrom, flat}
+use Rattle.table.proofs.Stored.{map-append}
+use Rattle.table.proofs.Near.{profile-near, tap-near, name-near, extra-near}
+use Rattle.table.proofs.Rows.{told-rows}
+use Rattle.table.proofs.Entries.{profiles-length, taps-length, names-length, extras-length}
+use Rattle.table.proofs.Lent.{Begins, filed-begins}
+use Rattle.by_value.proofs.Whole.{frontOf, filed-flat}
 
 -- ---- one entry
 
-tap-back : (t : Tap) → TapFits t → tapFrom (tapNumbers t) ≡ t
+tap-back : (t : Tap) → TapFits t → tapFrom (tapNumbers t) 0 ≡ t
 tap-back t f =
     let i = mod-eq-of-lt (f .id) in
     let u = mod-eq-of-lt (f .uses) in
@@ -39,7 +44,7 @@ module _ (a b c : ℕ) (f : a < 256) (g : b < 256) (h : c < 256) where
   low : (a * 65536 + b * 256 + c) % 256 ≡ c
   low = omega arith
 
-body-back : (b : TaggedProfile) → BodyFits b → bodyFrom (bodyNumbers b) ≡ b
+body-back : (b : TaggedProfile) → BodyFits b → bodyFrom (bodyNumbers b) 0 ≡ b
 unfolding bodyFrom
 body-back (Sort.Opaque t v) f = refl
 body-back (Sort.Biop l nt ne) f =
@@ -59,55 +64,72 @@ body-back (Sort.LiteOptions a nn c ne) f =
     (record { carousel = a .carousel; specifier0 = p j; specifier1 = q j; specifier2 = r j; «transport_stream» = t j; «original_network» = n j; service = s j })
     nn c ne
 
-profile-back : (p : Profile) → EntryFits p → profileFrom (bodyNumbers (p .body)) ≡ p
+profile-back : (p : Profile) → EntryFits p → profileFrom (bodyNumbers (p .body)) 0 ≡ p
 profile-back p f = let e = body-back (p .body) f in λ j. record { body = e j }
 
 -- ---- all entries of a sort
 
-every : {A : Type 0} (P : A → Type 0) → ((x : A) → P x) → (l : List A) → Each P l
-every P h [] = tt
-every P h (x ∷ l) = (h x, every P h l)
+map-drop : {A B : Type 0} (f : A → B) (n : ℕ) (l : List A) → map f (drop n l) ≡ drop n (map f l)
+map-drop f zero l = refl
+map-drop f (suc n) [] = refl
+map-drop f (suc n) (x ∷ l) = map-drop f n l
 
-module _ {E : Type 0} (P : E → Type 0) (from : List ℕ → E) (numbers : E → List ℕ) (back : (x : E) → P x → from (numbers x) ≡ x) where
-  map-back : (xs : List E) → Each P xs → map (λ x. from (numbers x)) xs ≡ xs
-  map-back [] h = refl
-  map-back (x ∷ xs) h = let p = back x (h .0) in let q = map-back xs (h .1) in λ j. p j ∷ q j
+module _ {E F : Type 0} (g : Region E) (from : List ℕ → ℕ → F) (near : (t : List ℕ) (k : ℕ) → from (part t k (g .width)) 0 ≡ from t k) (numbers : F → List ℕ) where
+  abbrev told : List ℕ → List F
+  told t = listed (g .size) (λ i. from t (entry g i))
 
-  chunks-back : (w n : ℕ) → ((x : E) → length (numbers x) ≡ w) → (xs : List E) → Each P xs → length xs ≡ n → (r : List ℕ)
-      → chunks from w n (joined (map numbers xs) ++ r) ≡ xs
-  unfolding chunks
-  chunks-back w n wide xs h e r =
-      let k : n ≡ length xs + 0 = omega arith in
-      ap (λ (m : ℕ). chunks from w m (joined (map numbers xs) ++ r)) k
-      ∙ chunks-append from w numbers wide xs 0 r
-      ∙ append-nil (map (λ x. from (numbers x)) xs)
-      ∙ map-back xs h
+  told-over : (t e : List ℕ) (xs : List F) → map (λ x. from (numbers x) 0) xs ≡ xs → rows g e ≡ map numbers xs ++ drop (length xs) (rows g t)
+      → told e ≡ xs ++ drop (length xs) (told t)
+  told-over t e xs back h =
+      let one : List ℕ → F = λ r. from r 0 in
+      told-rows g from near e
+      ∙ ap (map one) h
+      ∙ map-append one (map numbers xs) (drop (length xs) (rows g t))
+      ∙ ap₂ (λ (a b : List F). a ++ b) (map-map one numbers xs ∙ back) (map-drop one (length xs) (rows g t) ∙ ap (drop (length xs)) (sym (told-rows g from near t)))
 
--- what stands behind a part
-behind : (p q : List ℕ) (n m : ℕ) → length p ≡ n → drop (n + m) (p ++ q) ≡ drop m q
-behind p q n m h = ap (λ (k : ℕ). drop (k + m) (p ++ q)) (sym h) ∙ drop-append-add p q m
+map-back : {E : Type 0} (P : E → Type 0) (f : E → E) → ((x : E) → P x → f x ≡ x) → (xs : List E) → Each P xs → map f xs ≡ xs
+map-back P f back [] h = refl
+map-back P f back (x ∷ xs) h = let p = back x (h .0) in let q = map-back P f back xs (h .1) in λ j. p j ∷ q j
+
+map-same : {E : Type 0} (xs : List E) → map (λ x. x) xs ≡ xs
+map-same [] = refl
+map-same {E} (x ∷ xs) = ap (λ (l : List E). x ∷ l) (map-same xs)
+
+-- ---- the tables
+
+-- the tables of e begin with these entries and go on as those of t
+pub record Tells (t e : List ℕ) (u : Used) : Type 0 where
+  pub profiles : tablesFrom e .profiles ≡ u .profiles ++ drop (length (u .profiles)) (tablesFrom t .profiles)
+  pub taps : tablesFrom e .taps ≡ u .taps ++ drop (length (u .taps)) (tablesFrom t .taps)
+  pub names : tablesFrom e .names ≡ u .names ++ drop (length (u .names)) (tablesFrom t .names)
+  pub extras : tablesFrom e .extras ≡ u .extras ++ drop (length (u .extras)) (tablesFrom t .extras)
+
+pub tells : (t e : List ℕ) (u : Used) → Begins t e u → Each EntryFits (u .profiles) → Each TapFits (u .taps) → Tells t e u
+unfolding tablesFrom
+tells t e u b fp ft =
+    record {
+      profiles = told-over profileRegion profileFrom profile-near (λ p. bodyNumbers (p .body)) t e (u .profiles) (map-back EntryFits _ profile-back (u .profiles) fp) (b .profiles);
+      taps = told-over tapRegion tapFrom tap-near tapNumbers t e (u .taps) (map-back TapFits _ tap-back (u .taps) ft) (b .taps);
+      names = told-over nameRegion nameFrom name-near nameNumbers t e (u .names) (map-same (u .names)) (b .names);
+      extras = told-over extraRegion extraFrom extra-near extraNumbers t e (u .extras) (map-same (u .extras)) (b .extras);
+    }
+
+-- as many as there are
+all-told : {E : Type 0} (xs l : List E) {n : ℕ} → length l ≡ n → length xs ≡ n → xs ++ drop (length xs) l ≡ xs
+all-told {E} xs l p q = let h : length l ≤ length xs = omega (arith, p, q) in ap (λ (r : List E). xs ++ r) (drop-of-length-le l h) ∙ append-nil xs
 
 pub tables-flat : (x : Tables) → Typed x → tablesFrom (flat x) ≡ x
 unfolding tablesFrom flat
 tables-flat x y =
-    let bs = joined (map (λ p. bodyNumbers (p .body)) (x .profiles)) in
-    let ts = joined (map tapNumbers (x .taps)) in
-    let ns = joined (map nameNumbers (x .names)) in
-    let es = joined (map extraNumbers (x .extras)) in
-    let lb : length bs ≡ 80 = ap length (bodies-joined x y) ∙ bodies-wide x y in
-    let lt : length ts ≡ 180 = taps-wide x y in
-    let ln : length ns ≡ 128 = names-wide x y in
-    let ps : chunks profileFrom 10 8 (bs ++ (ts ++ (ns ++ (es ++ [])))) ≡ x .profiles =
-    chunks-back EntryFits profileFrom (λ p. bodyNumbers (p .body)) profile-back 10 8 (λ p. bodyWide (p .body)) (x .profiles) (y .profiles) (y .eight) _ in
-    let ks : chunks tapFrom 5 36 (drop 80 (bs ++ (ts ++ (ns ++ (es ++ []))))) ≡ x .taps =
-    ap (chunks tapFrom 5 36) (drop-at bs _ 80 lb)
-    ∙ chunks-back TapFits tapFrom tapNumbers tap-back 5 36 (λ t. refl) (x .taps) (y .taps) (y .thirtySix) _ in
-    let nn : chunks nameFrom 4 32 (drop 260 (bs ++ (ts ++ (ns ++ (es ++ []))))) ≡ x .names =
-    ap (chunks nameFrom 4 32) (behind bs _ 80 180 lb ∙ drop-at ts _ 180 lt)
-    ∙ chunks-back (λ n. Unit {0}) nameFrom nameNumbers (λ n u. refl) 4 32 (λ n. refl) (x .names) (every (λ n. Unit {0}) (λ n. tt) (x .names)) (y .names) _ in
-    let ee : chunks extraFrom 3 32 (drop 388 (bs ++ (ts ++ (ns ++ (es ++ []))))) ≡ x .extras =
-    ap (chunks extraFrom 3 32) (behind bs _ 80 308 lb ∙ behind ts _ 180 128 lt ∙ drop-at ns _ 128 ln)
-    ∙ chunks-back (λ n. Unit {0}) extraFrom extraNumbers (λ n u. refl) 3 32 (λ n. refl) (x .extras) (every (λ n. Unit {0}) (λ n. tt) (x .extras)) (y .thirtyTwo) _ in
+    let t : List ℕ = replicate tableSize 0 in
+    let u : Used = record { typeId = x .«type_id»; profiles = x .profiles; taps = x .taps; names = x .names; extras = x .extras } in
+    let b = subst (λ (e : List ℕ). Begins t e u) (filed-flat x y t refl)
+    (filed-begins t refl u (frontOf x) refl (omega (arith, y .eight)) (omega (arith, y .thirtySix)) (omega (arith, y .names)) (omega (arith, y .thirtyTwo))) in
+    let z = tells t (flat x) u b (y .profiles) (y .taps) in
+    let ps = z .profiles ∙ all-told (x .profiles) (tablesFrom t .profiles) (profiles-length t) (y .eight) in
+    let ts = z .taps ∙ all-told (x .taps) (tablesFrom t .taps) (taps-length t) (y .thirtySix) in
+    let ns = z .names ∙ all-told (x .names) (tablesFrom t .names) (names-length t) (y .names) in
+    let es = z .extras ∙ all-told (x .extras) (tablesFrom t .extras) (extras-length t) (y .thirtyTwo) in
     λ j.
     record {
       «type_id» = x .«type_id»;
@@ -116,12 +138,12 @@ tables-flat x y =
       «names_used» = x .«names_used»;
       «extras_used» = x .«extras_used»;
       profiles = ps j;
-      taps = ks j;
-      names = nn j;
-      extras = ee j;
+      taps = ts j;
+      names = ns j;
+      extras = es j;
     }
 
 -- a table of zeros tells the empty tables
-pub tables-cleared : tablesFrom (replicate 490 0) ≡ noTables
-unfolding tablesFrom chunks bodyFrom filled
+pub tables-cleared : tablesFrom (replicate tableSize 0) ≡ noTables
+unfolding tablesFrom listed bodyFrom filled
 tables-cleared = refl

@@ -1,12 +1,10 @@
-// The way between the tables as a struct and the lent table of 490 numbers. Every entry goes over, used or not, so that the two are inverse
+// The way between the tables as a struct and the lent table. Every entry goes over, used or not, so that the two are inverse
 // with no talk of counts.
 ghost use mathlib.Core.Path.{_≡_};
-ghost use Prim.Native.Nat.{_+_, _*_, _<_};
-ghost use lib.ListN.{length};
-ghost use Rattle.octets.specs.Octets.{part, splice};
-ghost use Rattle.table.specs.Region.{stored};
-ghost use Rattle.table.specs.Flat.{bodyNumbers, profileRegion, tapRegion, nameRegion, extraRegion, bodyOfTable, tablesFrom, flat};
-ghost use Rattle.by_value.specs.Bodies.{biopOf, liteOf, opaqueOf, bodies};
+ghost use Prim.Native.Nat.{_<_};
+ghost use Rattle.octets.specs.Octets.{splice};
+ghost use Rattle.table.specs.Region.{stored, entry};
+ghost use Rattle.table.specs.Flat.{bodyNumbers, profileRegion, tapRegion, nameRegion, extraRegion, tablesFrom, flat, Lent, profileOfTable, biopFrom, liteFrom, opaqueFrom, bodies};
 use entries::address_at;
 use entries::extra_at;
 use entries::location_at;
@@ -14,15 +12,26 @@ use entries::name_at;
 use entries::sort_at;
 use entries::tap_at;
 use entries::view_at;
+use reference::EXTRAS;
 use reference::LiteComponent;
+use reference::NAMES;
 use reference::NameComponent;
+use reference::PROFILES;
 use reference::Profile;
+use reference::TAPS;
 use reference::Tables;
 use reference::TaggedProfile;
 use reference::Tap;
 use reference::View;
 use table::BIOP;
+use table::EXTRAS_USED;
 use table::LITE_OPTIONS;
+use table::NAMES_USED;
+use table::PROFILE_WIDTH;
+use table::PROFILES_AT;
+use table::PROFILES_USED;
+use table::TAPS_USED;
+use table::TYPE_ID;
 use table::put_biop;
 use table::put_extra;
 use table::put_front;
@@ -34,10 +43,10 @@ use table::put_tap;
 // ---- out of the lent table
 
 fn biop_at(s: &[u32], i: usize) -> TaggedProfile
-    requires { ⌜ (i < 8) × (length (now s) ≡ 490) ⌝ }
-    ensures { λ r. ⌜ r ≡ biopOf (part (now (s .entry)) (6 + 10 * i) 10) ⌝ }
+    requires { ⌜ (i < profileRegion .size) × Lent (now s) ⌝ }
+    ensures { λ r. ⌜ r ≡ biopFrom (now (s .entry)) (entry profileRegion i) ⌝ }
 {
-    let at = 6 + 10 * i;
+    let at = PROFILES_AT + PROFILE_WIDTH * i;
     let location = location_at(s, i);
     TaggedProfile::Biop {
         location,
@@ -47,12 +56,15 @@ fn biop_at(s: &[u32], i: usize) -> TaggedProfile
 }
 
 fn lite_at(s: &[u32], i: usize) -> TaggedProfile
-    requires { ⌜ (i < 8) × (length (now s) ≡ 490) ⌝ }
-    ensures { λ r. ⌜ r ≡ liteOf (part (now (s .entry)) (6 + 10 * i) 10) ⌝ }
+    requires { ⌜ (i < profileRegion .size) × Lent (now s) ⌝ }
+    ensures { λ r. ⌜ r ≡ liteFrom (now (s .entry)) (entry profileRegion i) ⌝ }
 {
-    let at = 6 + 10 * i;
+    let at = PROFILES_AT + PROFILE_WIDTH * i;
     let address = address_at(s, i);
-    let context = view_at(s, at + 7);
+    let context = View {
+        at: s[at + 7],
+        len: s[at + 8],
+    };
     TaggedProfile::LiteOptions {
         address,
         names: s[at + 6],
@@ -62,11 +74,14 @@ fn lite_at(s: &[u32], i: usize) -> TaggedProfile
 }
 
 fn opaque_at(s: &[u32], i: usize) -> TaggedProfile
-    requires { ⌜ (i < 8) × (length (now s) ≡ 490) ⌝ }
-    ensures { λ r. ⌜ r ≡ opaqueOf (part (now (s .entry)) (6 + 10 * i) 10) ⌝ }
+    requires { ⌜ (i < profileRegion .size) × Lent (now s) ⌝ }
+    ensures { λ r. ⌜ r ≡ opaqueFrom (now (s .entry)) (entry profileRegion i) ⌝ }
 {
-    let at = 6 + 10 * i;
-    let data = view_at(s, at + 2);
+    let at = PROFILES_AT + PROFILE_WIDTH * i;
+    let data = View {
+        at: s[at + 2],
+        len: s[at + 3],
+    };
     TaggedProfile::Opaque {
         tag: s[at + 1],
         data,
@@ -74,8 +89,8 @@ fn opaque_at(s: &[u32], i: usize) -> TaggedProfile
 }
 
 pub fn profile_at(s: &[u32], i: usize) -> Profile
-    requires { ⌜ (i < 8) × (length (now s) ≡ 490) ⌝ }
-    ensures { λ r. ⌜ r ≡ record { body = bodyOfTable (now (s .entry)) i } ⌝ }
+    requires { ⌜ (i < profileRegion .size) × Lent (now s) ⌝ }
+    ensures { λ r. ⌜ r ≡ profileOfTable (now (s .entry)) i ⌝ }
 {
     let sort = sort_at(s, i);
     if sort == BIOP {
@@ -90,8 +105,8 @@ pub fn profile_at(s: &[u32], i: usize) -> Profile
     Profile { body }
 }
 
-fn profiles_of(s: &[u32]) -> [Profile; 8]
-    requires { ⌜ length (now s) ≡ 490 ⌝ }
+fn profiles_of(s: &[u32]) -> [Profile; PROFILES]
+    requires { ⌜ Lent (now s) ⌝ }
     ensures { λ r. ⌜ r ≡ tablesFrom (now (s .entry)) .profiles ⌝ }
 {
     let body = TaggedProfile::Opaque {
@@ -99,9 +114,9 @@ fn profiles_of(s: &[u32]) -> [Profile; 8]
         data: View { at: 0, len: 0 },
     };
     let none = Profile { body };
-    let mut all = [none; 8];
+    let mut all = [none; PROFILES];
     let mut i = 0;
-    while i < 8 {
+    while i < PROFILES {
         let p = profile_at(s, i);
         all[i] = p;
         i += 1;
@@ -109,8 +124,8 @@ fn profiles_of(s: &[u32]) -> [Profile; 8]
     all
 }
 
-fn taps_of(s: &[u32]) -> [Tap; 36]
-    requires { ⌜ length (now s) ≡ 490 ⌝ }
+fn taps_of(s: &[u32]) -> [Tap; TAPS]
+    requires { ⌜ Lent (now s) ⌝ }
     ensures { λ r. ⌜ r ≡ tablesFrom (now (s .entry)) .taps ⌝ }
 {
     let none = Tap {
@@ -119,9 +134,9 @@ fn taps_of(s: &[u32]) -> [Tap; 36]
         association: 0,
         selector: View { at: 0, len: 0 },
     };
-    let mut all = [none; 36];
+    let mut all = [none; TAPS];
     let mut i = 0;
-    while i < 36 {
+    while i < TAPS {
         let t = tap_at(s, i);
         all[i] = t;
         i += 1;
@@ -129,15 +144,15 @@ fn taps_of(s: &[u32]) -> [Tap; 36]
     all
 }
 
-fn names_of(s: &[u32]) -> [NameComponent; 32]
-    requires { ⌜ length (now s) ≡ 490 ⌝ }
+fn names_of(s: &[u32]) -> [NameComponent; NAMES]
+    requires { ⌜ Lent (now s) ⌝ }
     ensures { λ r. ⌜ r ≡ tablesFrom (now (s .entry)) .names ⌝ }
 {
     let v = View { at: 0, len: 0 };
     let none = NameComponent { id: v, kind: v };
-    let mut all = [none; 32];
+    let mut all = [none; NAMES];
     let mut i = 0;
-    while i < 32 {
+    while i < NAMES {
         let n = name_at(s, i);
         all[i] = n;
         i += 1;
@@ -145,17 +160,17 @@ fn names_of(s: &[u32]) -> [NameComponent; 32]
     all
 }
 
-fn extras_of(s: &[u32]) -> [LiteComponent; 32]
-    requires { ⌜ length (now s) ≡ 490 ⌝ }
+fn extras_of(s: &[u32]) -> [LiteComponent; EXTRAS]
+    requires { ⌜ Lent (now s) ⌝ }
     ensures { λ r. ⌜ r ≡ tablesFrom (now (s .entry)) .extras ⌝ }
 {
     let none = LiteComponent {
         tag: 0,
         data: View { at: 0, len: 0 },
     };
-    let mut all = [none; 32];
+    let mut all = [none; EXTRAS];
     let mut i = 0;
-    while i < 32 {
+    while i < EXTRAS {
         let e = extra_at(s, i);
         all[i] = e;
         i += 1;
@@ -164,20 +179,20 @@ fn extras_of(s: &[u32]) -> [LiteComponent; 32]
 }
 
 pub fn tables_of(s: &[u32]) -> Tables
-    requires { ⌜ length (now s) ≡ 490 ⌝ }
+    requires { ⌜ Lent (now s) ⌝ }
     ensures { λ r. ⌜ r ≡ tablesFrom (now (s .entry)) ⌝ }
 {
-    let type_id = view_at(s, 0);
+    let type_id = view_at(s, TYPE_ID);
     let profiles = profiles_of(s);
     let taps = taps_of(s);
     let names = names_of(s);
     let extras = extras_of(s);
     Tables {
         type_id,
-        profiles_used: s[2],
-        taps_used: s[3],
-        names_used: s[4],
-        extras_used: s[5],
+        profiles_used: s[PROFILES_USED],
+        taps_used: s[TAPS_USED],
+        names_used: s[NAMES_USED],
+        extras_used: s[EXTRAS_USED],
         profiles,
         taps,
         names,
@@ -188,8 +203,8 @@ pub fn tables_of(s: &[u32]) -> Tables
 // ---- into the lent table
 
 fn put_profile(p: Profile, out: &mut [u32], i: usize)
-    requires { ⌜ (i < 8) × (length (now out) ≡ 490) ⌝ }
-    ensures { λ r. ⌜ now (out .exit) ≡ splice (now (out .entry)) (6 + 10 * i) (bodyNumbers (p .body)) ⌝ }
+    requires { ⌜ (i < profileRegion .size) × Lent (now out) ⌝ }
+    ensures { λ r. ⌜ now (out .exit) ≡ splice (now (out .entry)) (entry profileRegion i) (bodyNumbers (p .body)) ⌝ }
 {
     let body = p.body;
     match body {
@@ -208,48 +223,48 @@ fn put_profile(p: Profile, out: &mut [u32], i: usize)
     }
 }
 
-fn put_profiles(all: [Profile; 8], out: &mut [u32])
-    requires { ⌜ length (now out) ≡ 490 ⌝ }
+fn put_profiles(all: [Profile; PROFILES], out: &mut [u32])
+    requires { ⌜ Lent (now out) ⌝ }
     ensures { λ r. ⌜ now (out .exit) ≡ stored profileRegion (now (out .entry)) 0 (bodies all) ⌝ }
 {
     let mut i = 0;
-    while i < 8 {
+    while i < PROFILES {
         let p = all[i];
         put_profile(p, out, i);
         i += 1;
     }
 }
 
-fn put_taps(all: [Tap; 36], out: &mut [u32])
-    requires { ⌜ length (now out) ≡ 490 ⌝ }
+fn put_taps(all: [Tap; TAPS], out: &mut [u32])
+    requires { ⌜ Lent (now out) ⌝ }
     ensures { λ r. ⌜ now (out .exit) ≡ stored tapRegion (now (out .entry)) 0 all ⌝ }
 {
     let mut i = 0;
-    while i < 36 {
+    while i < TAPS {
         let t = all[i];
         put_tap(t, out, i);
         i += 1;
     }
 }
 
-fn put_names(all: [NameComponent; 32], out: &mut [u32])
-    requires { ⌜ length (now out) ≡ 490 ⌝ }
+fn put_names(all: [NameComponent; NAMES], out: &mut [u32])
+    requires { ⌜ Lent (now out) ⌝ }
     ensures { λ r. ⌜ now (out .exit) ≡ stored nameRegion (now (out .entry)) 0 all ⌝ }
 {
     let mut i = 0;
-    while i < 32 {
+    while i < NAMES {
         let n = all[i];
         put_name(n, out, i);
         i += 1;
     }
 }
 
-fn put_extras(all: [LiteComponent; 32], out: &mut [u32])
-    requires { ⌜ length (now out) ≡ 490 ⌝ }
+fn put_extras(all: [LiteComponent; EXTRAS], out: &mut [u32])
+    requires { ⌜ Lent (now out) ⌝ }
     ensures { λ r. ⌜ now (out .exit) ≡ stored extraRegion (now (out .entry)) 0 all ⌝ }
 {
     let mut i = 0;
-    while i < 32 {
+    while i < EXTRAS {
         let e = all[i];
         put_extra(e, out, i);
         i += 1;
@@ -257,7 +272,7 @@ fn put_extras(all: [LiteComponent; 32], out: &mut [u32])
 }
 
 pub fn put_tables(t: Tables, out: &mut [u32])
-    requires { ⌜ length (now out) ≡ 490 ⌝ }
+    requires { ⌜ Lent (now out) ⌝ }
     ensures { λ r. ⌜ now (out .exit) ≡ flat t ⌝ }
 {
     let profiles = t.profiles;

@@ -5,6 +5,7 @@ ghost use lib.ListN.{length};
 ghost use Rattle.text.specs.Written.{Written};
 ghost use Rattle.reference.specs.Reader.{readWhole};
 ghost use Rattle.cache.specs.Rows.{heading, rowOf, endText, brokenText, foundText, refusedText, answerText, Listed};
+ghost use Rattle.table.specs.Flat.{Lent};
 use lines::put_kind;
 use questions::object_kind;
 use reading::read_whole_into;
@@ -38,7 +39,7 @@ fn put_refused(number: u8, out: &mut [u8], at: usize) -> usize
 
 // What the row says behind the record's length. The reading goes into a lent table, whatever that held.
 fn put_answer(s: &[u8], table: &mut [u32], out: &mut [u8], at: usize) -> usize
-    requires { ⌜ (length (now table) ≡ 490) × (at + 31 ≤ length (now out)) ⌝ }
+    requires { ⌜ (Lent (now table)) × (at + 31 ≤ length (now out)) ⌝ }
     ensures { λ r. ⌜ Written (now (out .entry)) at 31 (answerText (readWhole (now (s .entry)))) (now (out .exit)) r ⌝ }
 {
     match read_whole_into(s, table) {
@@ -54,7 +55,7 @@ fn put_answer(s: &[u8], table: &mut [u32], out: &mut [u8], at: usize) -> usize
 
 // The row of record `number`, whose reference is s: the index behind it. Any line of the listing fits 80.
 fn put_row(number: u64, s: &[u8], table: &mut [u32], out: &mut [u8], at: usize) -> usize
-    requires { ⌜ (length (now table) ≡ 490) × (at + 80 ≤ length (now out)) ⌝ }
+    requires { ⌜ (Lent (now table)) × (at + 80 ≤ length (now out)) ⌝ }
     ensures { λ r. ⌜ Written (now (out .entry)) at 80 (rowOf number (now (s .entry))) (now (out .exit)) r ⌝ }
 {
     let size = put_decimal(out, at, number);
@@ -75,7 +76,7 @@ pub struct Rows {
 
 // The rows of the records that stand whole in a block from `at` on, after `seen` others, as many as surely fit the page.
 pub fn put_rows(block: &[u8], at: usize, seen: u64, table: &mut [u32], page: &mut [u8]) -> Rows
-    requires { ⌜ (at ≤ length (now block)) × (seen + length (now block) < 0x10000000000000000) × (length (now table) ≡ 490) × (length (now page) < 0x8000000000000000) ⌝ }
+    requires { ⌜ (at ≤ length (now block)) × (seen + length (now block) < 0x10000000000000000) × (Lent (now table)) × (length (now page) < 0x8000000000000000) ⌝ }
     ensures { λ r. ⌜ Listed (now (block .entry)) at seen (now (page .exit)) r ⌝ }
 {
     let room = page.len();

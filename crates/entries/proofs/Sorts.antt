@@ -7,53 +7,41 @@ use mathlib.Core.Bool.{Bool, true, false}
 use mathlib.Core.List.{List}
 use lib.Dec.{eqb}
 use lib.ListN.{getD}
-use Rattle.reference.specs.declared.TaggedProfile.{TaggedProfile}
-use Rattle.reference.specs.declared.TaggedProfile.the-variants as Sort
 use Rattle.reference.specs.Steps.{pick}
 use Rattle.reference.specs.Used.{tapsIn, namesIn}
-use Rattle.table.specs.Flat.{bodyFrom, locationFrom, addressFrom, viewFrom}
+use Rattle.table.specs.Flat.{biopFrom, liteFrom, opaqueFrom, bodyFrom}
 
-module _ (l : List ℕ) where
-  -- the three entries that such numbers may tell
-  abbrev biop : TaggedProfile
-  biop = Sort.Biop (locationFrom l) (getD l 7 0) (getD l 8 0)
-
-  abbrev lite : TaggedProfile
-  lite = Sort.LiteOptions (addressFrom l) (getD l 6 0) (viewFrom l 7) (getD l 9 0)
-
-  abbrev opaque : TaggedProfile
-  opaque = Sort.Opaque (getD l 1 0) (viewFrom l 2)
-
-  pub body-biop : getD l 0 0 ≡ 1 → bodyFrom l ≡ Sort.Biop (locationFrom l) (getD l 7 0) (getD l 8 0)
+module _ (t : List ℕ) (k : ℕ) where
+  pub body-biop : getD t k 0 ≡ 1 → bodyFrom t k ≡ biopFrom t k
   unfolding bodyFrom
-  body-biop e = ap (λ (k : ℕ). pick (eqb k 1) biop (pick (eqb k 2) lite opaque)) e
+  body-biop e = ap (λ (s : ℕ). pick (eqb s 1) (biopFrom t k) (pick (eqb s 2) (liteFrom t k) (opaqueFrom t k))) e
 
-  pub body-lite : getD l 0 0 ≡ 2 → bodyFrom l ≡ Sort.LiteOptions (addressFrom l) (getD l 6 0) (viewFrom l 7) (getD l 9 0)
+  pub body-lite : getD t k 0 ≡ 2 → bodyFrom t k ≡ liteFrom t k
   unfolding bodyFrom
-  body-lite e = ap (λ (k : ℕ). pick (eqb k 1) biop (pick (eqb k 2) lite opaque)) e
+  body-lite e = ap (λ (s : ℕ). pick (eqb s 1) (biopFrom t k) (pick (eqb s 2) (liteFrom t k) (opaqueFrom t k))) e
 
-  not-first : getD l 0 0 ≢ 1 → bodyFrom l ≡ pick (eqb (getD l 0 0) 2) lite opaque
+  not-first : getD t k 0 ≢ 1 → bodyFrom t k ≡ pick (eqb (getD t k 0) 2) (liteFrom t k) (opaqueFrom t k)
   unfolding bodyFrom
-  not-first h = ap (λ (b : Bool). pick b biop (pick (eqb (getD l 0 0) 2) lite opaque)) (ne-eqb (getD l 0 0) 1 h)
+  not-first h = ap (λ (b : Bool). pick b (biopFrom t k) (pick (eqb (getD t k 0) 2) (liteFrom t k) (opaqueFrom t k))) (ne-eqb (getD t k 0) 1 h)
 
-  not-second : getD l 0 0 ≢ 2 → bodyFrom l ≡ pick (eqb (getD l 0 0) 1) biop opaque
+  not-second : getD t k 0 ≢ 2 → bodyFrom t k ≡ pick (eqb (getD t k 0) 1) (biopFrom t k) (opaqueFrom t k)
   unfolding bodyFrom
-  not-second h = ap (λ (b : Bool). pick (eqb (getD l 0 0) 1) biop (pick b lite opaque)) (ne-eqb (getD l 0 0) 2 h)
+  not-second h = ap (λ (b : Bool). pick (eqb (getD t k 0) 1) (biopFrom t k) (pick b (liteFrom t k) (opaqueFrom t k))) (ne-eqb (getD t k 0) 2 h)
 
-  pub body-opaque : getD l 0 0 ≢ 1 → getD l 0 0 ≢ 2 → bodyFrom l ≡ Sort.Opaque (getD l 1 0) (viewFrom l 2)
-  body-opaque h k = not-first h ∙ ap (λ (b : Bool). pick b lite opaque) (ne-eqb (getD l 0 0) 2 k)
+  pub body-opaque : getD t k 0 ≢ 1 → getD t k 0 ≢ 2 → bodyFrom t k ≡ opaqueFrom t k
+  body-opaque h l = not-first h ∙ ap (λ (b : Bool). pick b (liteFrom t k) (opaqueFrom t k)) (ne-eqb (getD t k 0) 2 l)
 
   -- a profile that is not BIOP has no taps, one that is not LiteOptions no names
-  pub no-taps : getD l 0 0 ≢ 1 → tapsIn (bodyFrom l) ≡ 0
-  no-taps h = ap tapsIn (not-first h) ∙ go (eqb (getD l 0 0) 2)
+  pub no-taps : getD t k 0 ≢ 1 → tapsIn (bodyFrom t k) ≡ 0
+  no-taps h = ap tapsIn (not-first h) ∙ go (eqb (getD t k 0) 2)
     where
-      go : (b : Bool) → tapsIn (pick b lite opaque) ≡ 0
+      go : (b : Bool) → tapsIn (pick b (liteFrom t k) (opaqueFrom t k)) ≡ 0
       go true = refl
       go false = refl
 
-  pub no-names : getD l 0 0 ≢ 2 → namesIn (bodyFrom l) ≡ 0
-  no-names h = ap namesIn (not-second h) ∙ go (eqb (getD l 0 0) 1)
+  pub no-names : getD t k 0 ≢ 2 → namesIn (bodyFrom t k) ≡ 0
+  no-names h = ap namesIn (not-second h) ∙ go (eqb (getD t k 0) 1)
     where
-      go : (b : Bool) → namesIn (pick b biop opaque) ≡ 0
+      go : (b : Bool) → namesIn (pick b (biopFrom t k) (opaqueFrom t k)) ≡ 0
       go true = refl
       go false = refl

@@ -1,10 +1,10 @@
-// Typed entries out of a lent table of 490 numbers, each as the definition of the flat table tells it.
+// Typed entries out of a lent table, each as the definition of the flat table tells it.
 ghost use mathlib.Core.Path.{_≡_};
-ghost use Prim.Native.Nat.{_+_, _*_, _%_, _≤_, _<_};
+ghost use Prim.Native.Nat.{_+_, _≤_, _<_};
 ghost use lib.ListN.{length, getD};
-ghost use Rattle.octets.specs.Octets.{part};
 ghost use Rattle.reference.specs.Used.{tapsIn, namesIn, extrasIn, bodyView};
-ghost use Rattle.table.specs.Flat.{viewFrom, locationFrom, addressFrom, bodyOfTable, tapOfTable, nameOfTable, extraOfTable};
+ghost use Rattle.table.specs.Flat.{viewFrom, locationFrom, addressFrom, bodyOfTable, tapOfTable, nameOfTable, extraOfTable, profileRegion, tapRegion, nameRegion, extraRegion, Lent, viewAt};
+ghost use Rattle.table.specs.Region.{entry};
 use reference::LiteComponent;
 use reference::NameComponent;
 use reference::NsapAddress;
@@ -12,7 +12,16 @@ use reference::ObjectLocation;
 use reference::Tap;
 use reference::View;
 use table::BIOP;
+use table::EXTRA_WIDTH;
+use table::EXTRAS_AT;
 use table::LITE_OPTIONS;
+use table::NAME_WIDTH;
+use table::NAMES_AT;
+use table::PROFILE_WIDTH;
+use table::PROFILES_AT;
+use table::TAP_WIDTH;
+use table::TAPS_AT;
+use table::number_at;
 
 pub fn view_at(s: &[u32], at: usize) -> View
     requires { ⌜ at + 2 ≤ length (now s) ⌝ }
@@ -24,148 +33,169 @@ pub fn view_at(s: &[u32], at: usize) -> View
     }
 }
 
-// A number cut to 16 or to 8 bits.
-fn low16(v: u32) -> u16
-    ensures { λ r. ⌜ r ≡ v % 65536 ⌝ }
-{
-    (v % 65536) as u16
-}
-
-fn low8(v: u32) -> u8
-    ensures { λ r. ⌜ r ≡ v % 256 ⌝ }
-{
-    (v % 256) as u8
-}
-
 pub fn tap_at(s: &[u32], i: usize) -> Tap
-    requires { ⌜ (i < 36) × (length (now s) ≡ 490) ⌝ }
+    requires { ⌜ (i < tapRegion .size) × Lent (now s) ⌝ }
     ensures { λ r. ⌜ r ≡ tapOfTable (now (s .entry)) i ⌝ }
 {
-    let at = 86 + 5 * i;
-    let selector = view_at(s, at + 3);
+    let at = TAPS_AT + TAP_WIDTH * i;
+    let selector = View {
+        at: s[at + 3],
+        len: s[at + 4],
+    };
     Tap {
-        id: low16(s[at]),
-        use_: low16(s[at + 1]),
-        association: low16(s[at + 2]),
+        id: (s[at] % 65536) as u16,
+        use_: (s[at + 1] % 65536) as u16,
+        association: (s[at + 2] % 65536) as u16,
         selector,
     }
 }
 
 pub fn name_at(s: &[u32], i: usize) -> NameComponent
-    requires { ⌜ (i < 32) × (length (now s) ≡ 490) ⌝ }
+    requires { ⌜ (i < nameRegion .size) × Lent (now s) ⌝ }
     ensures { λ r. ⌜ r ≡ nameOfTable (now (s .entry)) i ⌝ }
 {
-    let at = 266 + 4 * i;
-    let id = view_at(s, at);
-    let kind = view_at(s, at + 2);
+    let at = NAMES_AT + NAME_WIDTH * i;
+    let id = View {
+        at: s[at],
+        len: s[at + 1],
+    };
+    let kind = View {
+        at: s[at + 2],
+        len: s[at + 3],
+    };
     NameComponent { id, kind }
 }
 
 pub fn extra_at(s: &[u32], i: usize) -> LiteComponent
-    requires { ⌜ (i < 32) × (length (now s) ≡ 490) ⌝ }
+    requires { ⌜ (i < extraRegion .size) × Lent (now s) ⌝ }
     ensures { λ r. ⌜ r ≡ extraOfTable (now (s .entry)) i ⌝ }
 {
-    let at = 394 + 3 * i;
-    let data = view_at(s, at + 1);
+    let at = EXTRAS_AT + EXTRA_WIDTH * i;
+    let data = View {
+        at: s[at + 1],
+        len: s[at + 2],
+    };
     LiteComponent { tag: s[at], data }
 }
 
 // A profile's entry number by number: reading and writing look at no more of it than they need.
 pub fn sort_at(s: &[u32], i: usize) -> u32
-    requires { ⌜ (i < 8) × (length (now s) ≡ 490) ⌝ }
-    ensures { λ r. ⌜ r ≡ getD (part (now (s .entry)) (6 + 10 * i) 10) 0 0 ⌝ }
+    requires { ⌜ (i < profileRegion .size) × Lent (now s) ⌝ }
+    ensures { λ r. ⌜ r ≡ getD (now (s .entry)) (entry profileRegion i) 0 ⌝ }
 {
-    s[6 + 10 * i]
+    s[PROFILES_AT + PROFILE_WIDTH * i]
 }
 
 // The tag of an opaque profile.
 pub fn tag_at(s: &[u32], i: usize) -> u32
-    requires { ⌜ (i < 8) × (length (now s) ≡ 490) ⌝ }
-    ensures { λ r. ⌜ r ≡ getD (part (now (s .entry)) (6 + 10 * i) 10) 1 0 ⌝ }
+    requires { ⌜ (i < profileRegion .size) × Lent (now s) ⌝ }
+    ensures { λ r. ⌜ r ≡ getD (now (s .entry)) (entry profileRegion i + 1) 0 ⌝ }
 {
-    s[6 + 10 * i + 1]
+    s[PROFILES_AT + PROFILE_WIDTH * i + 1]
+}
+
+// Its number j as a count, and its view at number j.
+fn count_at(s: &[u32], i: usize, j: usize) -> usize
+    requires { ⌜ (i < profileRegion .size) × (j < profileRegion .width) × Lent (now s) ⌝ }
+    ensures { λ r. ⌜ (r ≡ getD (now (s .entry)) (entry profileRegion i + j) 0) × (r < 0x100000000) ⌝ }
+{
+    number_at(s, PROFILES_AT + PROFILE_WIDTH * i + j)
+}
+
+fn view_in(s: &[u32], i: usize, j: usize) -> View
+    requires { ⌜ (i < profileRegion .size) × (j + 1 < profileRegion .width) × Lent (now s) ⌝ }
+    ensures { λ r. ⌜ r ≡ viewAt (now (s .entry)) (entry profileRegion i + j) (entry profileRegion i + (j + 1)) ⌝ }
+{
+    let at = PROFILES_AT + PROFILE_WIDTH * i;
+    View {
+        at: s[at + j],
+        len: s[at + (j + 1)],
+    }
 }
 
 // How many taps, names and extras the profile has.
 pub fn taps_at(s: &[u32], i: usize) -> usize
-    requires { ⌜ (i < 8) × (length (now s) ≡ 490) ⌝ }
+    requires { ⌜ (i < profileRegion .size) × Lent (now s) ⌝ }
     ensures { λ r. ⌜ (r ≡ tapsIn (bodyOfTable (now (s .entry)) i)) × (r < 0x100000000) ⌝ }
 {
     if sort_at(s, i) == BIOP {
-        return s[6 + 10 * i + 7] as usize;
+        return count_at(s, i, 7);
     }
     0
 }
 
 pub fn names_at(s: &[u32], i: usize) -> usize
-    requires { ⌜ (i < 8) × (length (now s) ≡ 490) ⌝ }
+    requires { ⌜ (i < profileRegion .size) × Lent (now s) ⌝ }
     ensures { λ r. ⌜ (r ≡ namesIn (bodyOfTable (now (s .entry)) i)) × (r < 0x100000000) ⌝ }
 {
     if sort_at(s, i) == LITE_OPTIONS {
-        return s[6 + 10 * i + 6] as usize;
+        return count_at(s, i, 6);
     }
     0
 }
 
 pub fn extras_at(s: &[u32], i: usize) -> usize
-    requires { ⌜ (i < 8) × (length (now s) ≡ 490) ⌝ }
+    requires { ⌜ (i < profileRegion .size) × Lent (now s) ⌝ }
     ensures { λ r. ⌜ (r ≡ extrasIn (bodyOfTable (now (s .entry)) i)) × (r < 0x100000000) ⌝ }
 {
     let sort = sort_at(s, i);
     if sort == BIOP {
-        return s[6 + 10 * i + 8] as usize;
+        return count_at(s, i, 8);
     }
     if sort == LITE_OPTIONS {
-        return s[6 + 10 * i + 9] as usize;
+        return count_at(s, i, 9);
     }
     0
 }
 
 // The key, the context or the data.
 pub fn profile_view(s: &[u32], i: usize) -> View
-    requires { ⌜ (i < 8) × (length (now s) ≡ 490) ⌝ }
+    requires { ⌜ (i < profileRegion .size) × Lent (now s) ⌝ }
     ensures { λ r. ⌜ r ≡ bodyView (bodyOfTable (now (s .entry)) i) ⌝ }
 {
     let sort = sort_at(s, i);
     if sort == BIOP {
-        return view_at(s, 6 + 10 * i + 5);
+        return view_in(s, i, 5);
     }
     if sort == LITE_OPTIONS {
-        return view_at(s, 6 + 10 * i + 7);
+        return view_in(s, i, 7);
     }
-    view_at(s, 6 + 10 * i + 2)
+    view_in(s, i, 2)
 }
 
 // Of a BIOP profile.
 pub fn location_at(s: &[u32], i: usize) -> ObjectLocation
-    requires { ⌜ (i < 8) × (length (now s) ≡ 490) ⌝ }
-    ensures { λ r. ⌜ r ≡ locationFrom (part (now (s .entry)) (6 + 10 * i) 10) ⌝ }
+    requires { ⌜ (i < profileRegion .size) × Lent (now s) ⌝ }
+    ensures { λ r. ⌜ r ≡ locationFrom (now (s .entry)) (entry profileRegion i) ⌝ }
 {
-    let at = 6 + 10 * i;
-    let key = view_at(s, at + 5);
+    let at = PROFILES_AT + PROFILE_WIDTH * i;
+    let key = View {
+        at: s[at + 5],
+        len: s[at + 6],
+    };
     ObjectLocation {
         carousel: s[at + 1],
-        module: low16(s[at + 2]),
-        version_major: low8(s[at + 3]),
-        version_minor: low8(s[at + 4]),
+        module: (s[at + 2] % 65536) as u16,
+        version_major: (s[at + 3] % 256) as u8,
+        version_minor: (s[at + 4] % 256) as u8,
         key,
     }
 }
 
 // Of a LiteOptions profile.
 pub fn address_at(s: &[u32], i: usize) -> NsapAddress
-    requires { ⌜ (i < 8) × (length (now s) ≡ 490) ⌝ }
-    ensures { λ r. ⌜ r ≡ addressFrom (part (now (s .entry)) (6 + 10 * i) 10) ⌝ }
+    requires { ⌜ (i < profileRegion .size) × Lent (now s) ⌝ }
+    ensures { λ r. ⌜ r ≡ addressFrom (now (s .entry)) (entry profileRegion i) ⌝ }
 {
-    let at = 6 + 10 * i;
+    let at = PROFILES_AT + PROFILE_WIDTH * i;
     let specifier = s[at + 2];
     NsapAddress {
         carousel: s[at + 1],
-        specifier0: low8(specifier / 65536),
-        specifier1: low8(specifier / 256),
-        specifier2: low8(specifier),
-        transport_stream: low16(s[at + 3]),
-        original_network: low16(s[at + 4]),
-        service: low16(s[at + 5]),
+        specifier0: (specifier / 65536 % 256) as u8,
+        specifier1: (specifier / 256 % 256) as u8,
+        specifier2: (specifier % 256) as u8,
+        transport_stream: (s[at + 3] % 65536) as u16,
+        original_network: (s[at + 4] % 65536) as u16,
+        service: (s[at + 5] % 65536) as u16,
     }
 }

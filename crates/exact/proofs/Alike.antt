@@ -1,18 +1,20 @@
 -- Tables with the same front and the same numbers in their used entries are exact alike. Assumes nothing.
-use Prim.Native.Nat.{ℕ, zero, suc, _+_, _*_, _<_, min}
+use Prim.Native.Nat.{ℕ, zero, suc, _<_, min}
 use mathlib.Core.Path.{_≡_, refl, sym, ap, ap₂, _∙_}
 use mathlib.Core.Bool.{Bool, _&&_}
 use mathlib.Core.List.{List, []}
 use native.Mathlib.Nat.{min-le-left, min-le-right}
 use native.Mathlib.Omega.{arith}
-use lib.ListN.{take, drop, getD}
+use lib.ListN.{take, getD}
 use lib.Seq.{getD-take}
 use Rattle.octets.specs.Octets.{part}
-use Rattle.table.specs.Region.{chunks, rows}
+use Rattle.table.specs.Region.{Region, entry, rows}
+use Rattle.table.specs.Flat.{profileRegion, tapRegion}
 use Rattle.table.specs.Filed.{SameEntries}
-use Rattle.table.proofs.Chunks.{entry-get}
+use Rattle.table.proofs.Listed.{listed-get}
 use Rattle.table.proofs.Alike.{same-front}
 use Rattle.exact.specs.Exact.{profileExact, tapExact, every, exact}
+use Rattle.exact.proofs.Sorts.{tap-near, profile-near}
 
 every-alike : (f g : ℕ → Bool) (n : ℕ) → ((i : ℕ) → i < n → f i ≡ g i) → every f n ≡ every g n
 unfolding every
@@ -21,28 +23,27 @@ every-alike f g (suc n) h = ap₂ (λ (a b : Bool). a && b) (every-alike f g n (
 
 module _ (t t′ : List ℕ) where
   -- row i of a region, where the rows before n are the same
-  row-alike : (w start size n i : ℕ) → i < size → i < n → take n (chunks (λ x. x) w size (drop start t)) ≡ take n (chunks (λ x. x) w size (drop start t′))
-      → part t (start + w * i) w ≡ part t′ (start + w * i) w
-  row-alike w start size n i small l e =
-      let r = chunks (λ x. x) w size (drop start t) in
-      let r′ = chunks (λ x. x) w size (drop start t′) in
-      sym (entry-get (λ x. x) w start size t i [] small)
-      ∙ sym (getD-take n r i [] l)
+  row-alike : {E : Type 0} (g : Region E) (n i : ℕ) → i < min n (g .size) → take n (rows g t) ≡ take n (rows g t′) → part t (entry g i) (g .width) ≡ part t′ (entry g i) (g .width)
+  unfolding rows
+  row-alike g n i h e =
+      let l : i < n = omega (arith, min-le-left n (g .size)) in
+      let small : i < g .size = omega (arith, min-le-right n (g .size)) in
+      sym (listed-get (g .size) (λ j. part t (entry g j) (g .width)) i [] small)
+      ∙ sym (getD-take n (rows g t) i [] l)
       ∙ ap (λ (x : List (List ℕ)). getD x i []) e
-      ∙ getD-take n r′ i [] l
-      ∙ entry-get (λ x. x) w start size t′ i [] small
+      ∙ getD-take n (rows g t′) i [] l
+      ∙ listed-get (g .size) (λ j. part t′ (entry g j) (g .width)) i [] small
+
+  -- what the numbers of each entry tell
+  told-alike : {E : Type 0} (g : Region E) (f : List ℕ → ℕ → Bool) → ((t : List ℕ) (k : ℕ) → f (part t k (g .width)) 0 ≡ f t k) → (n n′ : ℕ) → n ≡ n′
+      → take n (rows g t) ≡ take n (rows g t′) → every (λ i. f t (entry g i)) (min n (g .size)) ≡ every (λ i. f t′ (entry g i)) (min n′ (g .size))
+  told-alike g f near n n′ same e =
+      every-alike (λ i. f t (entry g i)) (λ i. f t′ (entry g i)) (min n (g .size))
+      (λ i k. sym (near t (entry g i)) ∙ ap (λ (r : List ℕ). f r 0) (row-alike g n i k e) ∙ near t′ (entry g i))
+      ∙ ap (λ (m : ℕ). every (λ i. f t′ (entry g i)) (min m (g .size))) same
 
   pub same-exact : SameEntries t t′ → exact t ≡ exact t′
-  unfolding exact rows
+  unfolding exact
   same-exact h =
-      let np = getD t 2 0 in
-      let nt = getD t 3 0 in
-      let ep = same-front t t′ h 2 (omega arith) in
-      let et = same-front t t′ h 3 (omega arith) in
-      ap₂ (λ (a b : Bool). a && b)
-      (every-alike (λ i. profileExact (part t (6 + 10 * i) 10)) (λ i. profileExact (part t′ (6 + 10 * i) 10)) (min np 8)
-      (λ i k. ap profileExact (row-alike 10 6 8 np i (omega (arith, min-le-right np 8)) (omega (arith, min-le-left np 8)) (h .profiles)))
-      ∙ ap (λ (n : ℕ). every (λ i. profileExact (part t′ (6 + 10 * i) 10)) (min n 8)) ep)
-      (every-alike (λ i. tapExact (part t (86 + 5 * i) 5)) (λ i. tapExact (part t′ (86 + 5 * i) 5)) (min nt 36)
-      (λ i k. ap tapExact (row-alike 5 86 36 nt i (omega (arith, min-le-right nt 36)) (omega (arith, min-le-left nt 36)) (h .taps)))
-      ∙ ap (λ (n : ℕ). every (λ i. tapExact (part t′ (86 + 5 * i) 5)) (min n 36)) et)
+      ap₂ (λ (a b : Bool). a && b) (told-alike profileRegion profileExact profile-near _ _ (same-front t t′ h 2 (omega arith)) (h .profiles))
+      (told-alike tapRegion tapExact tap-near _ _ (same-front t t′ h 3 (omega arith)) (h .taps))

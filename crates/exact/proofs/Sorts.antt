@@ -1,27 +1,39 @@
--- Whether a profile is exact, by its sort; and a part's numbers where they stand in the table. Assumes nothing.
-use Prim.Native.Nat.{ℕ, _<_}
-use mathlib.Core.Path.{_≡_, sym, ap, _∙_}
+-- Whether a profile is exact, by its sort; and that the numbers of an entry alone tell whether it is. Assumes nothing.
+use Prim.Native.Nat.{ℕ}
+use mathlib.Core.Path.{_≡_}
+use mathlib.Core.Bool.{_&&_}
 use mathlib.Core.List.{List}
-use native.Mathlib.Nat.{add-zero}
-use lib.Dec.{eqb}
+use lib.Dec.{ltb, eqb, lit<}
 use lib.ListN.{getD}
 use borrow.Author.Tests.{ne-eqb}
 use Rattle.octets.specs.Octets.{part}
-use Rattle.octets.proofs.Part.{part-get}
-use Rattle.exact.specs.Exact.{locationExact, addressExact, profileExact}
+use Rattle.reference.specs.Steps.{pick}
+use Rattle.table.proofs.Near.{first, number}
+use Rattle.exact.specs.Exact.{locationExact, addressExact, profileExact, tapExact}
 
-pub profile-biop : (l : List ℕ) → getD l 0 0 ≡ 1 → locationExact l ≡ profileExact l
-unfolding profileExact
-profile-biop l e = rw e
+module _ (t : List ℕ) (k : ℕ) where
+  pub profile-biop : getD t k 0 ≡ 1 → locationExact t k ≡ profileExact t k
+  unfolding profileExact
+  profile-biop e = rw e
 
-pub profile-lite : (l : List ℕ) → getD l 0 0 ≡ 2 → addressExact l ≡ profileExact l
-unfolding profileExact
-profile-lite l e = rw e
+  pub profile-lite : getD t k 0 ≡ 2 → addressExact t k ≡ profileExact t k
+  unfolding profileExact
+  profile-lite e = rw e
 
-pub profile-other : (l : List ℕ) → (getD l 0 0 ≡ 1 → ⊥) → (getD l 0 0 ≡ 2 → ⊥) → eqb (getD l 0 0) 0 ≡ profileExact l
-unfolding profileExact
-profile-other l a b = rw (ne-eqb (getD l 0 0) 1 a, ne-eqb (getD l 0 0) 2 b)
+  pub profile-other : (getD t k 0 ≡ 1 → ⊥) → (getD t k 0 ≡ 2 → ⊥) → eqb (getD t k 0) 0 ≡ profileExact t k
+  unfolding profileExact
+  profile-other a b = rw (ne-eqb (getD t k 0) 1 a, ne-eqb (getD t k 0) 2 b)
 
--- the first number of a part
-pub part-first : (d : List ℕ) (a n : ℕ) → 0 < n → getD d a 0 ≡ getD (part d a n) 0 0
-part-first d a n h = ap (λ (k : ℕ). getD d k 0) (sym (add-zero a)) ∙ part-get d a n 0 0 h
+  pub tap-near : tapExact (part t k 5) 0 ≡ tapExact t k
+  tap-near = λ i. ltb (first t k 5 (lit< tt) i) 65536 && ltb (number t k 5 1 (lit< tt) i) 65536 && ltb (number t k 5 2 (lit< tt) i) 65536
+
+  pub profile-near : profileExact (part t k 10) 0 ≡ profileExact t k
+  unfolding profileExact
+  profile-near =
+      λ i.
+      let a = first t k 10 (lit< tt) i in
+      let b = number t k 10 2 (lit< tt) i in
+      let c = number t k 10 3 (lit< tt) i in
+      let d = number t k 10 4 (lit< tt) i in
+      let e = number t k 10 5 (lit< tt) i in
+      pick (eqb a 1) (ltb b 65536 && ltb c 256 && ltb d 256) (pick (eqb a 2) (ltb b 16777216 && ltb c 65536 && ltb d 65536 && ltb e 65536) (eqb a 0))

@@ -7,23 +7,22 @@ use mathlib.Core.Logic.{_↔_}
 use native.Mathlib.Nat.{min-le-right}
 use native.Mathlib.Omega.{arith}
 use lib.Dec.{ltb, eqb}
-use lib.ListN.{length, take, getD}
+use lib.ListN.{take, getD}
 use borrow.Author.Tests.{ltb-true, eqb-true, lt-ltb, eq-eqb}
-use Rattle.octets.specs.Octets.{part}
 use Rattle.octets.proofs.Part.{row, row-part}
 use Rattle.reference.specs.Steps.{pick}
 use Rattle.reference.specs.declared.TaggedProfile.the-variants as Sort
-use Rattle.table.specs.Flat.{viewFrom, locationFrom, addressFrom, bodyNumbers, bodyFrom}
+use Rattle.table.specs.Flat.{bodyNumbers, bodyFrom, profileRegion, tapRegion, Lent, profilesUsed, tapsUsed, tapNumbers, tapFrom, biopFrom, liteFrom, opaqueFrom}
+use Rattle.table.specs.Region.{entry}
 use Rattle.exact.specs.Exact.{locationExact, addressExact, profileExact, tapExact, profilesExact, tapsExact, exact}
-use Rattle.exact.specs.Uncut.{ProfileUncut, TapUncut, Uncut}
+use Rattle.exact.specs.Uncut.{named, ProfileUncut, TapUncut, Uncut}
 use Rattle.exact.proofs.Every.{and-left, and-right, and-both, every-at, all-every}
 
 -- number k of both sides of a row
 at : (k : ℕ) {l m : List ℕ} → l ≡ m → getD l k 0 ≡ getD m k 0
 at k h = ap (λ (x : List ℕ). getD x k 0) h
 
-tap-exactly : (a b c d e : ℕ) → (tapExact (a ∷ b ∷ c ∷ d ∷ e ∷ []) ≡ true) ↔ TapUncut (a ∷ b ∷ c ∷ d ∷ e ∷ [])
-unfolding tapExact
+tap-exactly : (a b c d e : ℕ) → (tapExact (a ∷ b ∷ c ∷ d ∷ e ∷ []) 0 ≡ true) ↔ (a % 65536 ∷ b % 65536 ∷ c % 65536 ∷ d ∷ e ∷ [] ≡ a ∷ b ∷ c ∷ d ∷ e ∷ [])
 tap-exactly a b c d e = (
   λ x.
       let ab = and-left (ltb a 65536 && ltb b 65536) (ltb c 65536) x in
@@ -45,7 +44,7 @@ module _ (s a b c d e f g h k : ℕ) where
   abbrev ten : List ℕ
   ten = s ∷ a ∷ b ∷ c ∷ d ∷ e ∷ f ∷ g ∷ h ∷ k ∷ []
 
-  location-exactly : 1 ≡ s → (locationExact ten ≡ true) ↔ (take 9 (bodyNumbers (Sort.Biop (locationFrom ten) g h)) ≡ take 9 ten)
+  location-exactly : 1 ≡ s → (locationExact ten 0 ≡ true) ↔ (take 9 (bodyNumbers (biopFrom ten 0)) ≡ take 9 ten)
   location-exactly es = (
     λ x.
         let bc = and-left (ltb b 65536 && ltb c 256) (ltb d 256) x in
@@ -63,7 +62,7 @@ module _ (s a b c d e f g h k : ℕ) where
         and-both (and-both (lt-ltb b 65536 (omega arith)) (lt-ltb c 256 (omega arith))) (lt-ltb d 256 (omega arith)),
   )
 
-  address-exactly : 2 ≡ s → (addressExact ten ≡ true) ↔ (take 10 (bodyNumbers (Sort.LiteOptions (addressFrom ten) f (viewFrom ten 7) k)) ≡ take 10 ten)
+  address-exactly : 2 ≡ s → (addressExact ten 0 ≡ true) ↔ (take 10 (bodyNumbers (liteFrom ten 0)) ≡ take 10 ten)
   address-exactly es = (
     λ x.
         let bcd = and-left (ltb b 16777216 && ltb c 65536 && ltb d 65536) (ltb e 65536) x in
@@ -87,47 +86,47 @@ module _ (s a b c d e f g h k : ℕ) where
 
   -- by the sort: BIOP, LiteOptions, and opaque, which an unknown one would be told as
   sorted : (p q : Bool) → eqb s 1 ≡ p → eqb s 2 ≡ q
-      → (pick p (locationExact ten) (pick q (addressExact ten) (eqb s 0)) ≡ true)
-      ↔ (take (cond p 9 (cond q 10 4)) (bodyNumbers (pick p (Sort.Biop (locationFrom ten) g h) (pick q (Sort.LiteOptions (addressFrom ten) f (viewFrom ten 7) k) (Sort.Opaque a (viewFrom ten 2)))))
+      → (pick p (locationExact ten 0) (pick q (addressExact ten 0) (eqb s 0)) ≡ true)
+      ↔ (take (cond p 9 (cond q 10 4)) (bodyNumbers (pick p (biopFrom ten 0) (pick q (liteFrom ten 0) (opaqueFrom ten 0))))
       ≡ take (cond p 9 (cond q 10 4)) ten)
   sorted true q ep eq = location-exactly (sym (eqb-true s 1 ep))
   sorted false true ep eq = address-exactly (sym (eqb-true s 2 eq))
   sorted false false ep eq = (λ x. let es : 0 ≡ s = sym (eqb-true s 0 x) in λ j. es j ∷ a ∷ b ∷ c ∷ [], λ y. eq-eqb s 0 (sym (at 0 y)))
 
-  profile-exactly : (profileExact ten ≡ true) ↔ ProfileUncut ten
+  profile-exactly : (profileExact ten 0 ≡ true) ↔ (take (named s) (bodyNumbers (bodyFrom ten 0)) ≡ take (named s) ten)
   unfolding profileExact bodyFrom
   profile-exactly = sorted (eqb s 1) (eqb s 2) refl refl
 
 -- ---- row i of a table
 
-module _ (t : List ℕ) (long : length t ≡ 490) where
-  tap-row : (i : ℕ) → i < 36 → (tapExact (part t (86 + 5 * i) 5) ≡ true) ↔ TapUncut (part t (86 + 5 * i) 5)
+module _ (t : List ℕ) (long : Lent t) where
+  tap-row : (i : ℕ) → i < tapRegion .size → (tapExact t (entry tapRegion i) ≡ true) ↔ TapUncut t i
   unfolding row
   tap-row i l =
-      let at = 86 + 5 * i in
-      subst (λ (x : List ℕ). (tapExact x ≡ true) ↔ TapUncut x) (row-part t at 5 (omega arith))
+      let at = entry tapRegion i in
+      subst (λ (x : List ℕ). (tapExact t at ≡ true) ↔ (tapNumbers (tapFrom t at) ≡ x)) (row-part t at 5 (omega arith))
       (tap-exactly (getD t at 0) (getD t (at + 1) 0) (getD t (at + 2) 0) (getD t (at + 3) 0) (getD t (at + 4) 0))
 
-  profile-row : (i : ℕ) → i < 8 → (profileExact (part t (6 + 10 * i) 10) ≡ true) ↔ ProfileUncut (part t (6 + 10 * i) 10)
-  unfolding row
+  profile-row : (i : ℕ) → i < profileRegion .size → (profileExact t (entry profileRegion i) ≡ true) ↔ ProfileUncut t i
+  unfolding row bodyFrom profileExact
   profile-row i l =
-      let at = 6 + 10 * i in
-      subst (λ (x : List ℕ). (profileExact x ≡ true) ↔ ProfileUncut x) (row-part t at 10 (omega arith))
+      let at = entry profileRegion i in
+      subst (λ (x : List ℕ). (profileExact t at ≡ true) ↔ (take (named (getD t at 0)) (bodyNumbers (bodyFrom t at)) ≡ take (named (getD t at 0)) x)) (row-part t at 10 (omega arith))
       (profile-exactly (getD t at 0) (getD t (at + 1) 0) (getD t (at + 2) 0) (getD t (at + 3) 0) (getD t (at + 4) 0) (getD t (at + 5) 0) (getD t (at + 6) 0) (getD t (at + 7) 0) (getD t (at + 8) 0) (getD t (at + 9) 0))
 
   pub exact-exactly : (exact t ≡ true) ↔ Uncut t
   unfolding exact
   exact-exactly =
-      let np = min (getD t 2 0) 8 in
-      let nt = min (getD t 3 0) 36 in
-      let fp : ℕ → Bool = λ i. profileExact (part t (6 + 10 * i) 10) in
-      let ft : ℕ → Bool = λ i. tapExact (part t (86 + 5 * i) 5) in (
+      let np = min (profilesUsed t) (profileRegion .size) in
+      let nt = min (tapsUsed t) (tapRegion .size) in
+      let fp : ℕ → Bool = λ i. profileExact t (entry profileRegion i) in
+      let ft : ℕ → Bool = λ i. tapExact t (entry tapRegion i) in (
         λ x.
             record {
-              profiles = λ i h. profile-row i (omega (arith, min-le-right (getD t 2 0) 8)) .0 (every-at fp i np h (and-left (profilesExact t np) (tapsExact t nt) x));
-              taps = λ i h. tap-row i (omega (arith, min-le-right (getD t 3 0) 36)) .0 (every-at ft i nt h (and-right (profilesExact t np) (tapsExact t nt) x));
+              profiles = λ i h. profile-row i (omega (arith, min-le-right (profilesUsed t) (profileRegion .size))) .0 (every-at fp i np h (and-left (profilesExact t np) (tapsExact t nt) x));
+              taps = λ i h. tap-row i (omega (arith, min-le-right (tapsUsed t) (tapRegion .size))) .0 (every-at ft i nt h (and-right (profilesExact t np) (tapsExact t nt) x));
             },
         λ u.
-            and-both (all-every fp np λ i h. profile-row i (omega (arith, min-le-right (getD t 2 0) 8)) .1 (u .profiles i h))
-            (all-every ft nt λ i h. tap-row i (omega (arith, min-le-right (getD t 3 0) 36)) .1 (u .taps i h)),
+            and-both (all-every fp np λ i h. profile-row i (omega (arith, min-le-right (profilesUsed t) (profileRegion .size))) .1 (u .profiles i h))
+            (all-every ft nt λ i h. tap-row i (omega (arith, min-le-right (tapsUsed t) (tapRegion .size))) .1 (u .taps i h)),
       )

@@ -1,5 +1,7 @@
 // The guide's program: reads a reference, looks at its tables, asks the questions, and writes it anew; and the same by a table that it lends.
 // Each function that says something answers whether it could be written.
+use ior::FlatTable;
+use ior::TABLE;
 use libc::STDOUT_FILENO;
 use outcome::tell_written;
 use reference::Answer;
@@ -123,7 +125,7 @@ fn say_answer(text: &[u8], answer: Answer) -> bool {
 }
 
 // A module that is wider than its two octets is refused, and not cut: 65578 would be written as 42.
-fn write_too_wide(s: &[u8], table: &mut [u32; 490]) -> bool {
+fn write_too_wide(s: &[u8], table: &mut FlatTable) -> bool {
     let mut out = [0u8; 64];
     table[8] = 65578;
     let length = ior::length_from(table, s);
@@ -133,7 +135,7 @@ fn write_too_wide(s: &[u8], table: &mut [u32; 490]) -> bool {
 
 // The same by a table that the caller lends, whatever it held before: number 8 is the module of the first profile.
 fn lend_a_table(s: &[u8]) -> bool {
-    let mut table = [0xA5A5A5A5u32; 490];
+    let mut table = [0xA5A5A5A5u32; TABLE];
     let mut out = [0u8; 64];
     let read = ior::read_whole_into(s, &mut table);
     let written = ior::write_from(&table, s, &mut out);

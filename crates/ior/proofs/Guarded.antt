@@ -18,7 +18,7 @@ use Rattle.reference.proofs.Asked.{picks-first, picks-second}
 use Rattle.reference.proofs.Cases.{by-test}
 use Rattle.reference.proofs.Measured as measuredly
 use Rattle.reference.proofs.Numbers.{writing-number}
-use Rattle.table.specs.Flat.{tablesFrom}
+use Rattle.table.specs.Flat.{tablesFrom, Lent}
 use Rattle.table.specs.Filed.{SameEntries}
 use Rattle.table.proofs.Alike.{same-used}
 use Rattle.exact.specs.Exact.{exact}
@@ -31,7 +31,7 @@ use Rattle.writing.specs.Writes.{Writes}
 use Rattle.ior.specs.Lent.{notExact, measuredFrom, WritesFrom}
 
 -- the table that an accepted reading left
-pub taken-exact : (s t e : List ℕ) (n : ℕ) → length t ≡ 490 → Taken s t e n → exact e ≡ true
+pub taken-exact : (s t e : List ℕ) (n : ℕ) → Lent t → Taken s t e n → exact e ≡ true
 taken-exact s t e n l k = ap exact (k .left) ∙ read-exact t l (k .meaning) (k .leads .formed) (k .leads .room)
 
 -- measuring
@@ -45,7 +45,7 @@ module _ (t s : List ℕ) where
   inexact-measured x = picks-second (exact t) (measured (tablesFrom t) s) notExact x
 
 -- the table that an accepted reading left: no number is cut, and the part's length is measured
-module _ (s t e : List ℕ) (n : ℕ) (l : length t ≡ 490) (k : Taken s t e n) where
+module _ (s t e : List ℕ) (n : ℕ) (l : Lent t) (k : Taken s t e n) where
   pub taken-uncut : Uncut e
   taken-uncut = exact-exactly e (k .shows .long) .0 (taken-exact s t e n l k)
 
@@ -94,7 +94,7 @@ module _ (t s d : List ℕ) (w : Told) (f : List ℕ) (c : WritesFrom t s d w f)
   not-exact h =
       by-test (exact t) (λ x. let n = writing-number (tablesFrom t) s d (refusal 255 0 0 0) (sym (exact-writes x .answers) ∙ h) .1 in absurd (omega arith)) (λ x. x)
 
-  pub writing-cuts-nothing : length t ≡ 490 → (w ≡ notExact) ↔ (Uncut t → ⊥)
+  pub writing-cuts-nothing : Lent t → (w ≡ notExact) ↔ (Uncut t → ⊥)
   writing-cuts-nothing l =
       let e = exact-exactly t l in (
         λ h u. let x = sym (e .1 u) ∙ not-exact h in let z : _≡_ {A = ℕ} 0 1 = cc in omega arith,

@@ -23,7 +23,7 @@ use Rattle.reference.specs.Promises.{GivesBack, ReadsBack, PutInFront, LengthIs
 use Rattle.reference.proofs.Accept.{exactly, whole}
 use Rattle.reference.proofs.Written.{output-octets}
 use Rattle.table.specs.Region.{Words}
-use Rattle.table.specs.Flat.{tablesFrom}
+use Rattle.table.specs.Flat.{tablesFrom, tableSize, Lent}
 use Rattle.table.specs.Filed.{referenceFiled, SameEntries}
 use Rattle.table.proofs.Typed.{told-typed}
 use Rattle.exact.specs.Uncut.{Uncut}
@@ -37,12 +37,12 @@ use Rattle.ior.proofs.Guarded as guarded
 use Rattle.ior.proofs.Demands as face
 
 -- What is told of the table that an accepted reading leaves has exactly the reference's used entries, whatever the table held before.
-pub lent-shows : (t : List ℕ) → length t ≡ 490 → (m : Reference) → WellFormed m → Room m → usedOf (tablesFrom (referenceFiled t m)) ≡ tablesOf m
+pub lent-shows : (t : List ℕ) → Lent t → (m : Reference) → WellFormed m → Room m → usedOf (tablesFrom (referenceFiled t m)) ≡ tablesOf m
 lent-shows t l m w room = reading.lent-shows t l m w room
 
 -- ---- read_leading_into
 
-module _ (s : List ℕ) (o : Octets s) (t e : List ℕ) (lent : length t ≡ 490) (r : Told) (c : ReadInto (readLeading s) t e r) where
+module _ (s : List ℕ) (o : Octets s) (t e : List ℕ) (lent : Lent t) (r : Told) (c : ReadInto (readLeading s) t e r) where
   -- DEMAND 3. A slice of up to 65,535 octets is accepted with n octets and the used entries u exactly when its first n octets are the layout of a
   -- well-formed meaning that fits the tables, and u are that meaning's.
   pub lent-accepts-exactly : length s ≤ 65535 → (n : ℕ) (u : Used)
@@ -59,7 +59,7 @@ module _ (s : List ℕ) (o : Octets s) (t e : List ℕ) (lent : length t ≡ 490
   lent-views-show-their-fields n h = let k = reading.leading-taken s o t e lent r n h c in (k .meaning, k .leads, k .shows)
 
   -- DEMAND 1, first half: a refused reading leaves zeros, which tell the empty tables.
-  pub lent-refused-reading-is-empty : (x : Refusal) → r ≡ Refused x → (e ≡ replicate 490 0) × (tablesFrom e ≡ noTables)
+  pub lent-refused-reading-is-empty : (x : Refusal) → r ≡ Refused x → (e ≡ replicate tableSize 0) × (tablesFrom e ≡ noTables)
   lent-refused-reading-is-empty x h = reading.into-refused (readLeading s) t e r c x h
 
   -- No number of the table that an accepted reading left is cut, and measuring it over the same octets tells the part's length.
@@ -81,7 +81,7 @@ module _ (s : List ℕ) (o : Octets s) (t e : List ℕ) (lent : length t ≡ 490
 
 -- ---- read_whole_into
 
-module _ (s : List ℕ) (o : Octets s) (t e : List ℕ) (lent : length t ≡ 490) (r : Told) (c : ReadInto (readWhole s) t e r) where
+module _ (s : List ℕ) (o : Octets s) (t e : List ℕ) (lent : Lent t) (r : Told) (c : ReadInto (readWhole s) t e r) where
   -- The same of a whole slice, with n its length.
   pub lent-accepts-whole-exactly : length s ≤ 65535 → (n : ℕ) (u : Used)
       → ((r ≡ Count n) × (usedOf (tablesFrom e) ≡ u)) ↔ ((m : Reference) × (Leads s m n) × (n ≡ length s) × (u ≡ tablesOf m))
@@ -95,7 +95,7 @@ module _ (s : List ℕ) (o : Octets s) (t e : List ℕ) (lent : length t ≡ 490
   pub lent-whole-is-leading : (n : ℕ) → r ≡ Count n → (ReadInto (readLeading s) t e r) × (n ≡ length s)
   lent-whole-is-leading n h = reading.whole-into s o t e r n h c
 
-  pub lent-refused-whole-is-empty : (x : Refusal) → r ≡ Refused x → (e ≡ replicate 490 0) × (tablesFrom e ≡ noTables)
+  pub lent-refused-whole-is-empty : (x : Refusal) → r ≡ Refused x → (e ≡ replicate tableSize 0) × (tablesFrom e ≡ noTables)
   lent-refused-whole-is-empty x h = reading.into-refused (readWhole s) t e r c x h
 
 -- ---- write_from and length_from: t is any table of u32, read or made by the caller
@@ -106,7 +106,7 @@ module _ (t s d : List ℕ) (w : Told) (f : List ℕ) (c : WritesFrom t s d w f)
   lent-refused-writing-leaves-all x h = guarded.refused-leaves t s d w f c x h
 
   -- No number is cut: a table is refused with 255 exactly if some used entry would not be told as it stands.
-  pub lent-cuts-no-number : length t ≡ 490 → (w ≡ notExact) ↔ (Uncut t → ⊥)
+  pub lent-cuts-no-number : Lent t → (w ≡ notExact) ↔ (Uncut t → ⊥)
   lent-cuts-no-number l = guarded.writing-cuts-nothing t s d w f c l
 
   -- An accepted one puts the image at the front, as long as it answers, and leaves the octets behind it.
@@ -116,7 +116,7 @@ module _ (t s d : List ℕ) (w : Told) (f : List ℕ) (c : WritesFrom t s d w f)
   -- DEMAND 3, the other way: what the writer accepts, with no opaque profile under a known tag, is read back from the output itself, into any lent
   -- table, with equal contents.
   pub lent-written-reads-back : Octets s → Octets d → length d ≤ 65535 → Words t → Each Unknown (usedOf (tablesFrom t) .profiles) → (n : ℕ) → w ≡ Count n
-      → (t′ e′ : List ℕ) (r′ : Told) → length t′ ≡ 490 → ReadInto (readLeading f) t′ e′ r′ → ReadsBack (tablesFrom t) s n f (record { answer = r′; tables = tablesFrom e′ })
+      → (t′ e′ : List ℕ) (r′ : Told) → Lent t′ → ReadInto (readLeading f) t′ e′ r′ → ReadsBack (tablesFrom t) s n f (record { answer = r′; tables = tablesFrom e′ })
   lent-written-reads-back o od small y u n h t′ e′ r′ l c′ =
       let typed = told-typed t y in
       let x = guarded.accepted-writes t s d w f c n h in
@@ -125,7 +125,7 @@ module _ (t s d : List ℕ) (w : Told) (f : List ℕ) (c : WritesFrom t s d w f)
 
   -- The n octets that were written, read as a whole slice: the same, whatever the output's length.
   pub lent-image-reads-back : Octets s → Words t → Each Unknown (usedOf (tablesFrom t) .profiles) → (n : ℕ) → w ≡ Count n
-      → (t′ e′ : List ℕ) (r′ : Told) → length t′ ≡ 490 → ReadInto (readWhole (take n f)) t′ e′ r′
+      → (t′ e′ : List ℕ) (r′ : Told) → Lent t′ → ReadInto (readWhole (take n f)) t′ e′ r′
       → ReadsBack (tablesFrom t) s n (take n f) (record { answer = r′; tables = tablesFrom e′ })
   lent-image-reads-back o y u n h t′ e′ r′ l c′ =
       let typed = told-typed t y in

@@ -22,9 +22,12 @@ use reference::Reading;
 use reference::Tables;
 use reference::TapNumbers;
 use reference::wrong;
+use table::SIZE;
 
 // A table of 490 numbers; crate table says which number is what.
-pub type FlatTable = [u32; 490];
+pub const TABLE: usize = SIZE;
+
+pub type FlatTable = [u32; TABLE];
 
 // The number that measuring and writing refuse a lent table with in which a number would be cut.
 pub const NOT_EXACT: u8 = 255;

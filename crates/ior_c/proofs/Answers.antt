@@ -1,6 +1,6 @@
 -- What the arrays hold after all of their numbers were stored; and the first BIOP profile, found by the first numbers of a table's profiles.
 -- Assumes nothing.
-use Prim.Native.Nat.{ℕ, _+_, _*_, _<_, _≤_}
+use Prim.Native.Nat.{ℕ, _+_, _<_, _≤_}
 use mathlib.Core.Path.{_≡_, refl, sym, ap, _∙_}
 use mathlib.Core.Bool.{Bool, true, false}
 use mathlib.Core.Logic.{_≢_}
@@ -13,7 +13,6 @@ use lib.ListN.{length, drop, getD}
 use lib.Seq.{take-all, drop-length}
 use Rattle.octets.specs.Octets.{part, be, splice}
 use Rattle.reference.specs.declared.TaggedProfile.the-variants as Sort
-use Rattle.reference.specs.declared.TaggedProfile.{TaggedProfile}
 use Rattle.reference.specs.declared.Profile.{Profile as Entry}
 use Rattle.reference.specs.Steps.{pick}
 use Rattle.reference.specs.Refusals.{refusal}
@@ -21,9 +20,9 @@ use Rattle.reference.specs.Tabled.{noProfile}
 use Rattle.reference.specs.declared.FirstBiop.the-variants as Firsts
 use Rattle.reference.specs.Questions.{isBiop, firstFrom, firstBiop}
 use Rattle.reference.proofs.Asked.{picks-first, picks-second}
-use Rattle.table.specs.Region.{chunks}
-use Rattle.table.specs.Flat.{tablesFrom, profileFrom, bodyFrom, locationFrom, addressFrom, viewFrom}
-use Rattle.table.proofs.Chunks.{chunks-length, entry-get}
+use Rattle.table.specs.Region.{entry}
+use Rattle.table.specs.Flat.{tablesFrom, bodyFrom, profileRegion, profilesUsed, profileOfTable, biopFrom, liteFrom, opaqueFrom}
+use Rattle.table.proofs.Entries.{profiles-length, profile-entry}
 use Rattle.entries.proofs.Sorts.{body-biop}
 use Rattle.questions.proofs.Cases.{ahead, first-over, first-within, first-start, first-here, first-later, first-end}
 use Rattle.ior_c.specs.Said.{typeNumber}
@@ -47,54 +46,45 @@ type-other l h = picks-second (eqb (length l) 4) (be l) 0 (ne-eqb (length l) 4 h
 -- ---- the first BIOP profile
 
 -- an entry is BIOP exactly if its first number is 1
-module _ (l : List ℕ) where
-  abbrev biop : TaggedProfile
-  biop = Sort.Biop (locationFrom l) (getD l 7 0) (getD l 8 0)
-
-  abbrev lite : TaggedProfile
-  lite = Sort.LiteOptions (addressFrom l) (getD l 6 0) (viewFrom l 7) (getD l 9 0)
-
-  abbrev opaque : TaggedProfile
-  opaque = Sort.Opaque (getD l 1 0) (viewFrom l 2)
-
-  not-biop : getD l 0 0 ≢ 1 → isBiop (bodyFrom l) ≡ false
-  unfolding bodyFrom
-  not-biop h = ap (λ (b : Bool). isBiop (pick b biop (pick (eqb (getD l 0 0) 2) lite opaque))) (ne-eqb (getD l 0 0) 1 h) ∙ go (eqb (getD l 0 0) 2)
-    where
-      go : (b : Bool) → isBiop (pick b lite opaque) ≡ false
-      go true = refl
-      go false = refl
-
--- a table's profiles
-abbrev pub profilesIn : List ℕ → List Entry
-profilesIn t = chunks profileFrom 10 8 (drop 6 t)
+not-biop : (t : List ℕ) (k : ℕ) → getD t k 0 ≢ 1 → isBiop (bodyFrom t k) ≡ false
+unfolding bodyFrom
+not-biop t k h =
+    ap (λ (b : Bool). isBiop (pick b (biopFrom t k) (pick (eqb (getD t k 0) 2) (liteFrom t k) (opaqueFrom t k)))) (ne-eqb (getD t k 0) 1 h) ∙ go (eqb (getD t k 0) 2)
+  where
+    go : (b : Bool) → isBiop (pick b (liteFrom t k) (opaqueFrom t k)) ≡ false
+    go true = refl
+    go false = refl
 
 module _ (t : List ℕ) where
-  pub too-many : 8 < getD t 2 0 → firstBiop (tablesFrom t) ≡ Firsts.Refused (refusal 8 40 0 0)
+  -- a table's profiles
+  abbrev profiles : List Entry
+  profiles = tablesFrom t .profiles
+
+  -- what is left of the used ones at profile i
+  abbrev pub left : ℕ → List Entry
+  left i = ahead profiles (profilesUsed t) i
+
+  pub too-many : profileRegion .size < profilesUsed t → firstBiop (tablesFrom t) ≡ Firsts.Refused (refusal 8 40 0 0)
   unfolding tablesFrom
   too-many h = first-over (tablesFrom t) h
 
-  pub starts : getD t 2 0 ≤ 8 → firstBiop (tablesFrom t) ≡ firstFrom 0 (ahead (profilesIn t) (getD t 2 0) 0)
+  pub starts : profilesUsed t ≤ profileRegion .size → firstBiop (tablesFrom t) ≡ firstFrom 0 (left 0)
   unfolding tablesFrom
-  starts h = first-within (tablesFrom t) h ∙ sym (first-start (profilesIn t) (getD t 2 0))
+  starts h = first-within (tablesFrom t) h ∙ sym (first-start profiles (profilesUsed t))
 
   module _ (i : ℕ) where
-    pub ends : getD t 2 0 ≤ i → firstFrom i (ahead (profilesIn t) (getD t 2 0) i) ≡ Firsts.Nothing
-    ends h = first-end (profilesIn t) (getD t 2 0) i h
+    pub ends : profilesUsed t ≤ i → firstFrom i (left i) ≡ Firsts.Nothing
+    ends h = first-end profiles (profilesUsed t) i h
 
-    module _ (h : i < getD t 2 0) (k : getD t 2 0 ≤ 8) where
-      long : getD t 2 0 ≤ length (profilesIn t)
-      long = omega (arith, chunks-length profileFrom 10 8 (drop 6 t))
+    module _ (h : i < profilesUsed t) (k : profilesUsed t ≤ profileRegion .size) where
+      long : profilesUsed t ≤ length profiles
+      long = omega (arith, profiles-length t)
 
-      entry : getD (profilesIn t) i noProfile ≡ profileFrom (part t (6 + 10 * i) 10)
-      entry = entry-get profileFrom 10 6 8 t i noProfile (omega arith)
+      here : getD profiles i noProfile ≡ profileOfTable t i
+      here = profile-entry t i (omega arith)
 
-      pub found : getD (part t (6 + 10 * i) 10) 0 0 ≡ 1 → firstFrom i (ahead (profilesIn t) (getD t 2 0) i) ≡ Firsts.At i
-      found e =
-          first-here (profilesIn t) (getD t 2 0) i h long
-          (ap (λ (p : Entry). isBiop (p .body)) entry ∙ ap isBiop (body-biop (part t (6 + 10 * i) 10) e))
+      pub found : getD t (entry profileRegion i) 0 ≡ 1 → firstFrom i (left i) ≡ Firsts.At i
+      found e = first-here profiles (profilesUsed t) i h long (ap (λ (p : Entry). isBiop (p .body)) here ∙ ap isBiop (body-biop t _ e))
 
-      pub passed : getD (part t (6 + 10 * i) 10) 0 0 ≢ 1
-          → firstFrom i (ahead (profilesIn t) (getD t 2 0) i) ≡ firstFrom (i + 1) (ahead (profilesIn t) (getD t 2 0) (i + 1))
-      passed n =
-          first-later (profilesIn t) (getD t 2 0) i h long (ap (λ (p : Entry). isBiop (p .body)) entry ∙ not-biop (part t (6 + 10 * i) 10) n)
+      pub passed : getD t (entry profileRegion i) 0 ≢ 1 → firstFrom i (left i) ≡ firstFrom (i + 1) (left (i + 1))
+      passed n = first-later profiles (profilesUsed t) i h long (ap (λ (p : Entry). isBiop (p .body)) here ∙ not-biop t _ n)

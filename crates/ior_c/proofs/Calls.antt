@@ -20,6 +20,7 @@ use lib.ListN.{length}
 use borrow.Author.Tests.{eq-eqb, ne-eqb, eqb-true, le-leb, lt-leb}
 use Rattle.reference.proofs.Asked.{picks-first, picks-second}
 use Rattle.reference.proofs.Cases.{by-test, by-answer}
+use Rattle.table.specs.Flat.{tableSize, Lent}
 use Rattle.exact.specs.Exact.{exact}
 use Rattle.exact.specs.Uncut.{Uncut}
 use Rattle.exact.proofs.Every.{and-left, and-right}
@@ -112,26 +113,26 @@ module _ (n array answer : ℕ) where
   lengths e = (eqb-true array n (and-left (eqb array n) (eqb answer 5) e), eqb-true answer 5 (and-right (eqb array n) (eqb answer 5) e))
 
 module _ (t : List ℕ) (answer : ℕ) where
-  pub not-askable : sized 490 (length t) answer ≡ false → askable t answer ≡ false
+  pub not-askable : sized tableSize (length t) answer ≡ false → askable t answer ≡ false
   unfolding askable
   not-askable e = ap (λ (b : Bool). b && exact t) e
 
-  pub askable-by-table : sized 490 (length t) answer ≡ true → askable t answer ≡ exact t
+  pub askable-by-table : sized tableSize (length t) answer ≡ true → askable t answer ≡ exact t
   unfolding askable
   askable-by-table e = ap (λ (b : Bool). b && exact t) e
 
   -- with arrays of the right lengths, exactly if no number of the table is cut
-  pub unaskable-exactly : length t ≡ 490 → answer ≡ 5 → (askable t answer ≡ false) ↔ (Uncut t → ⊥)
+  pub unaskable-exactly : Lent t → answer ≡ 5 → (askable t answer ≡ false) ↔ (Uncut t → ⊥)
   unaskable-exactly l f =
       let e = exact-exactly t l in
-      let k = askable-by-table (is-sized 490 (length t) answer l f) in (
+      let k = askable-by-table (is-sized tableSize (length t) answer l f) in (
         λ h u. let x = sym (e .1 u) ∙ sym k ∙ h in let z : _≡_ {A = ℕ} 0 1 = cc in omega arith,
         λ never. k ∙ by-test {P = exact t ≡ false} (exact t) (λ x. absurd (never (e .0 x))) (λ x. x),
       )
 
-  pub askable-lengths : askable t answer ≡ true → (length t ≡ 490) × (answer ≡ 5)
+  pub askable-lengths : askable t answer ≡ true → (Lent t) × (answer ≡ 5)
   unfolding askable
-  askable-lengths e = lengths 490 (length t) answer (and-left (sized 490 (length t) answer) (exact t) e)
+  askable-lengths e = lengths tableSize (length t) answer (and-left (sized tableSize (length t) answer) (exact t) e)
 
 module _ (uses pair : ℕ) where
   pub wide-use : 65535 < uses → tapAsked uses pair ≡ false

@@ -28,7 +28,7 @@ use Rattle.reference.proofs.Numbers.{leading-numbers, whole-numbers}
 use Rattle.reference.proofs.Written.{output-reads-back, written-reads-whole, image-octets, output-octets}
 use Rattle.reference.proofs.Measured.{refused-writing-leaves-all, accepted-writing-puts}
 use Rattle.table.specs.Region.{Words}
-use Rattle.table.specs.Flat.{tablesFrom}
+use Rattle.table.specs.Flat.{tablesFrom, tableSize, Lent}
 use Rattle.table.specs.Filed.{SameEntries}
 use Rattle.table.proofs.Typed.{told-typed}
 use Rattle.exact.specs.Uncut.{Uncut}
@@ -57,7 +57,7 @@ module _ (s : List ℕ) (o : Octets s) (t a : List ℕ) (r : ℕ) (b e : List �
 
   -- DEMAND 3. With arrays of the right lengths, a slice of up to 65,535 octets is accepted with n octets and the used entries u exactly when its first n
   -- octets are the layout of a well-formed meaning that fits the tables, and u are that meaning's.
-  pub c-accepts-exactly : length t ≡ 490 → length a ≡ 5 → length s ≤ 65535 → (n : ℕ) (u : Used)
+  pub c-accepts-exactly : Lent t → length a ≡ 5 → length s ≤ 65535 → (n : ℕ) (u : Used)
       → ((r ≡ 0) × (getD b 4 0 ≡ n) × (usedOf (tablesFrom e) ≡ u)) ↔ ((m : Reference) × (Leads s m n) × (u ≡ tablesOf m))
   c-accepts-exactly l f small n u =
       let x = reading.read-exactly (readLeading s) (reading.leading s) t a r b e c l f (leading-good s o) n u in (
@@ -74,7 +74,7 @@ module _ (s : List ℕ) (o : Octets s) (t a : List ℕ) (r : ℕ) (b e : List �
   pub c-unasked-reading-leaves-all : r ≡ 255 → (b ≡ a) × (e ≡ t)
   c-unasked-reading-leaves-all z = reading.read-unasked (readLeading s) (reading.leading s) t a r b e c z
 
-  pub c-refused-reading-is-empty : r ≢ 0 → r ≢ 255 → (x : Refusal) × (r ≡ x .number) × (Among r (1 ∷ 2 ∷ 3 ∷ 4 ∷ 6 ∷ 7 ∷ [])) × (b ≡ numbersOf (Refused x)) × (e ≡ replicate 490 0)
+  pub c-refused-reading-is-empty : r ≢ 0 → r ≢ 255 → (x : Refusal) × (r ≡ x .number) × (Among r (1 ∷ 2 ∷ 3 ∷ 4 ∷ 6 ∷ 7 ∷ [])) × (b ≡ numbersOf (Refused x)) × (e ≡ replicate tableSize 0)
   c-refused-reading-is-empty z w =
       let (x, q, n, told, left) = reading.read-refused (readLeading s) (reading.leading s) t a r b e c z w in
       (x, n, subst (λ (i : ℕ). Among i (1 ∷ 2 ∷ 3 ∷ 4 ∷ 6 ∷ 7 ∷ [])) (sym n) (leading-numbers s x q), told, left)
@@ -111,7 +111,7 @@ module _ (s : List ℕ) (o : Octets s) (t a : List ℕ) (r : ℕ) (b e : List �
 
 module _ (s : List ℕ) (o : Octets s) (t a : List ℕ) (r : ℕ) (b e : List ℕ) (c : IorReadWhole s t a r b e) where
   -- The same of a whole slice, with n its length.
-  pub c-accepts-whole-exactly : length t ≡ 490 → length a ≡ 5 → length s ≤ 65535 → (n : ℕ) (u : Used)
+  pub c-accepts-whole-exactly : Lent t → length a ≡ 5 → length s ≤ 65535 → (n : ℕ) (u : Used)
       → ((r ≡ 0) × (getD b 4 0 ≡ n) × (usedOf (tablesFrom e) ≡ u)) ↔ ((m : Reference) × (Leads s m n) × (n ≡ length s) × (u ≡ tablesOf m))
   c-accepts-whole-exactly l f small n u =
       let x = reading.read-exactly (readWhole s) (reading.wholly s) t a r b e c l f (whole-good s o) n u in (
@@ -127,7 +127,7 @@ module _ (s : List ℕ) (o : Octets s) (t a : List ℕ) (r : ℕ) (b e : List �
   pub c-unasked-whole-leaves-all : r ≡ 255 → (b ≡ a) × (e ≡ t)
   c-unasked-whole-leaves-all z = reading.read-unasked (readWhole s) (reading.wholly s) t a r b e c z
 
-  pub c-refused-whole-is-empty : r ≢ 0 → r ≢ 255 → (x : Refusal) × (r ≡ x .number) × (Among r (1 ∷ 2 ∷ 3 ∷ 4 ∷ 6 ∷ 7 ∷ [])) × (b ≡ numbersOf (Refused x)) × (e ≡ replicate 490 0)
+  pub c-refused-whole-is-empty : r ≢ 0 → r ≢ 255 → (x : Refusal) × (r ≡ x .number) × (Among r (1 ∷ 2 ∷ 3 ∷ 4 ∷ 6 ∷ 7 ∷ [])) × (b ≡ numbersOf (Refused x)) × (e ≡ replicate tableSize 0)
   c-refused-whole-is-empty z w =
       let (x, q, n, told, left) = reading.read-refused (readWhole s) (reading.wholly s) t a r b e c z w in
       (x, n, subst (λ (i : ℕ). Among i (1 ∷ 2 ∷ 3 ∷ 4 ∷ 6 ∷ 7 ∷ [])) (sym n) (whole-numbers s x q), told, left)
@@ -147,7 +147,7 @@ module _ (t s d a : List ℕ) (r : ℕ) (b f : List ℕ) (c : IorWrite t s d a r
   c-unasked-writing-leaves-all z = let (n, p, q) = unasked-given c (writing.writing-unasked t s a r b d f c .0 z) in (p, q)
 
   -- No number is cut: with arrays of the right lengths the result is 255 exactly if some used entry would not be told as it stands.
-  pub c-cuts-no-number : length t ≡ 490 → length a ≡ 5 → (r ≡ 255) ↔ (Uncut t → ⊥)
+  pub c-cuts-no-number : Lent t → length a ≡ 5 → (r ≡ 255) ↔ (Uncut t → ⊥)
   c-cuts-no-number l five =
       let u = writing.writing-unasked t s a r b d f c in
       let x = unaskable-exactly t (length a) l five in
@@ -162,7 +162,7 @@ module _ (t s d a : List ℕ) (r : ℕ) (b f : List ℕ) (c : IorWrite t s d a r
   -- DEMAND 3, the other way: what is written, with no opaque profile under a known tag, is read back from the output itself, into any table, with equal
   -- contents.
   pub c-written-reads-back : Octets s → Octets d → length d ≤ 65535 → Words t → Each Unknown (usedOf (tablesFrom t) .profiles) → r ≡ 0
-      → (t′ a′ : List ℕ) (r′ : ℕ) (b′ e′ : List ℕ) → length t′ ≡ 490 → length a′ ≡ 5 → IorRead f t′ a′ r′ b′ e′
+      → (t′ a′ : List ℕ) (r′ : ℕ) (b′ e′ : List ℕ) → Lent t′ → length a′ ≡ 5 → IorRead f t′ a′ r′ b′ e′
       → (r′ ≡ 0) × (b′ ≡ b) × (ReadsBack (tablesFrom t) s (getD b 4 0) f (taking (getD b 4 0) (tablesFrom e′)))
   c-written-reads-back o od small y u z t′ a′ r′ b′ e′ l five w =
       let (h, v, e, q) = writing.write-zero t s d a r b f c z in
@@ -177,7 +177,7 @@ module _ (t s d a : List ℕ) (r : ℕ) (b f : List ℕ) (c : IorWrite t s d a r
 
   -- The octets that were written, read as a whole slice: the same, whatever the output's length.
   pub c-image-reads-back : Octets s → Words t → Each Unknown (usedOf (tablesFrom t) .profiles) → r ≡ 0
-      → (t′ a′ : List ℕ) (r′ : ℕ) (b′ e′ : List ℕ) → length t′ ≡ 490 → length a′ ≡ 5 → IorReadWhole (take (getD b 4 0) f) t′ a′ r′ b′ e′
+      → (t′ a′ : List ℕ) (r′ : ℕ) (b′ e′ : List ℕ) → Lent t′ → length a′ ≡ 5 → IorReadWhole (take (getD b 4 0) f) t′ a′ r′ b′ e′
       → (r′ ≡ 0) × (b′ ≡ b) × (ReadsBack (tablesFrom t) s (getD b 4 0) (take (getD b 4 0) f) (taking (getD b 4 0) (tablesFrom e′)))
   c-image-reads-back o y u z t′ a′ r′ b′ e′ l five w =
       let (h, v, e, q) = writing.write-zero t s d a r b f c z in
@@ -209,7 +209,7 @@ module _ (t s a : List ℕ) (r : ℕ) (b : List ℕ) (c : IorLength t s a r b) w
   pub c-unasked-measuring-leaves-all : r ≡ 255 → b ≡ a
   c-unasked-measuring-leaves-all z = unasked-told c (writing.measuring-unasked t s a r b c .0 z) .1
 
-  pub c-measuring-cuts-no-number : length t ≡ 490 → length a ≡ 5 → (r ≡ 255) ↔ (Uncut t → ⊥)
+  pub c-measuring-cuts-no-number : Lent t → length a ≡ 5 → (r ≡ 255) ↔ (Uncut t → ⊥)
   c-measuring-cuts-no-number l five =
       let u = writing.measuring-unasked t s a r b c in
       let x = unaskable-exactly t (length a) l five in

@@ -19,7 +19,7 @@ use Rattle.reference.specs.Tabled.{usedOf}
 use Rattle.reference.proofs.Cases.{by-test, by-answer}
 use Rattle.reference.proofs.Numbers.{leading-numbers, whole-numbers, reading-number}
 use Rattle.reference.proofs.Promised.{refuses}
-use Rattle.table.specs.Flat.{tablesFrom}
+use Rattle.table.specs.Flat.{tablesFrom, tableSize, Lent}
 use Rattle.reading.specs.Into.{tableLeft, ReadInto}
 use Rattle.reading.proofs.Lent.{into-exactly, into-refused, whole-into}
 use Rattle.ior_c.specs.Said.{numberOf, numbersOf, Gives, sized}
@@ -31,24 +31,24 @@ Numbered x = (y : Refusal) → x ≡ refused y → (0 < y .number) × (y .number
 
 -- a reading x into a table that held t, with an answer's array that held a
 abbrev pub Reads : Answer Reference → (t a : List ℕ) (r : ℕ) (b e : List ℕ) → Type 0
-Reads x t a r b e = Gives (sized 490 (length t) (length a)) (answered x .answer) (tableLeft x t) a t r b e
+Reads x t a r b e = Gives (sized tableSize (length t) (length a)) (answered x .answer) (tableLeft x t) a t r b e
 
 -- a call that was accepted with n octets
 pub record ReadZero (x : Answer Reference) (t a b e : List ℕ) : Type 0 where
   pub count : ℕ
-  pub lent : length t ≡ 490
+  pub lent : Lent t
   pub five : length a ≡ 5
   pub told : b ≡ 0 ∷ 0 ∷ 0 ∷ 0 ∷ count ∷ []
   pub into : ReadInto x t e (Count count)
 
 module _ (x : Answer Reference) (numbered : Numbered x) (t a : List ℕ) (r : ℕ) (b e : List ℕ) (c : Reads x t a r b e) where
   pub read-zero : r ≡ 0 → ReadZero x t a b e
-  read-zero z = by-test (sized 490 (length t) (length a)) yes no
+  read-zero z = by-test (sized tableSize (length t) (length a)) yes no
     where
-      no : sized 490 (length t) (length a) ≡ false → ReadZero x t a b e
+      no : sized tableSize (length t) (length a) ≡ false → ReadZero x t a b e
       no h = let n = unasked-given c h .0 in absurd (omega arith)
 
-      yes : sized 490 (length t) (length a) ≡ true → ReadZero x t a b e
+      yes : sized tableSize (length t) (length a) ≡ true → ReadZero x t a b e
       yes h = by-answer (answered x .answer) taken not
         where
           g : (r ≡ numberOf (answered x .answer)) × (b ≡ numbersOf (answered x .answer)) × (e ≡ tableLeft x t)
@@ -56,7 +56,7 @@ module _ (x : Answer Reference) (numbered : Numbered x) (t a : List ℕ) (r : �
 
           taken : (n : ℕ) → answered x .answer ≡ Count n → ReadZero x t a b e
           taken n q =
-              let (l, f) = lengths 490 (length t) (length a) h in
+              let (l, f) = lengths tableSize (length t) (length a) h in
               record { count = n; lent = l; five = f; told = g .1 ∙ ap numbersOf q; into = record { answers = sym q; leaves = g .2 } }
 
           not : (y : Refusal) → answered x .answer ≡ Refused y → ReadZero x t a b e
@@ -66,25 +66,25 @@ module _ (x : Answer Reference) (numbered : Numbered x) (t a : List ℕ) (r : �
               absurd (omega arith)
 
   -- with arrays of the right lengths, the core's reading
-  pub read-sized : length t ≡ 490 → length a ≡ 5 → (r ≡ numberOf (answered x .answer)) × (b ≡ numbersOf (answered x .answer)) × (ReadInto x t e (answered x .answer))
+  pub read-sized : Lent t → length a ≡ 5 → (r ≡ numberOf (answered x .answer)) × (b ≡ numbersOf (answered x .answer)) × (ReadInto x t e (answered x .answer))
   read-sized l f =
-      let (p, q, s) = asked-given c (is-sized 490 (length t) (length a) l f) in
+      let (p, q, s) = asked-given c (is-sized tableSize (length t) (length a) l f) in
       (p, q, record { answers = refl; leaves = s })
 
   pub read-unasked : r ≡ 255 → (b ≡ a) × (e ≡ t)
   read-unasked z = let (n, p, q) = unasked-given c (unasked-exactly (λ y q. numbered y (refuses x y q) .1) (c .tells) .0 z) in (p, q)
 
-  pub read-refused : r ≢ 0 → r ≢ 255 → (y : Refusal) × (x ≡ refused y) × (r ≡ y .number) × (b ≡ numbersOf (Refused y)) × (e ≡ replicate 490 0)
-  read-refused z w = by-test (sized 490 (length t) (length a)) yes (λ h. absurd (w (unasked-given c h .0)))
+  pub read-refused : r ≢ 0 → r ≢ 255 → (y : Refusal) × (x ≡ refused y) × (r ≡ y .number) × (b ≡ numbersOf (Refused y)) × (e ≡ replicate tableSize 0)
+  read-refused z w = by-test (sized tableSize (length t) (length a)) yes (λ h. absurd (w (unasked-given c h .0)))
     where
-      yes : sized 490 (length t) (length a) ≡ true → (y : Refusal) × (x ≡ refused y) × (r ≡ y .number) × (b ≡ numbersOf (Refused y)) × (e ≡ replicate 490 0)
+      yes : sized tableSize (length t) (length a) ≡ true → (y : Refusal) × (x ≡ refused y) × (r ≡ y .number) × (b ≡ numbersOf (Refused y)) × (e ≡ replicate tableSize 0)
       yes h = by-answer (answered x .answer) (λ n q. absurd (z (asked-given c h .0 ∙ ap numberOf q)))
           (λ y q.
           let (p, k, l) = asked-given c h in
           (y, refuses x y q, p ∙ ap numberOf q, k ∙ ap numbersOf q, into-refused x t e (answered x .answer) (record { answers = refl; leaves = l }) y q .0))
 
   -- accepted with n octets and the used entries u exactly when the reader answers so
-  pub read-exactly : length t ≡ 490 → length a ≡ 5 → ((m : Reference) (n : ℕ) → x ≡ ok m n → (WellFormed m) × (Room m)) → (n : ℕ) (u : Used)
+  pub read-exactly : Lent t → length a ≡ 5 → ((m : Reference) (n : ℕ) → x ≡ ok m n → (WellFormed m) × (Room m)) → (n : ℕ) (u : Used)
       → ((r ≡ 0) × (getD b 4 0 ≡ n) × (usedOf (tablesFrom e) ≡ u)) ↔ ((m : Reference) × (x ≡ ok m n) × (u ≡ tablesOf m))
   read-exactly l f good n u = (
     λ h.
@@ -111,4 +111,4 @@ pub whole-is-leading : (s : List ℕ) → Octets s → (t a : List ℕ) (r : ℕ
 whole-is-leading s o t a r b e c z =
     let k = read-zero (readWhole s) (wholly s) t a r b e c z in
     let (i, n) = whole-into s o t e (Count (k .count)) (k .count) refl (k .into) in
-    (given (is-sized 490 (length t) (length a) (k .lent) (k .five)) (i .answers) (z, k .told) (i .leaves), ap (λ (v : List ℕ). getD v 4 0) (k .told) ∙ n)
+    (given (is-sized tableSize (length t) (length a) (k .lent) (k .five)) (i .answers) (z, k .told) (i .leaves), ap (λ (v : List ℕ). getD v 4 0) (k .told) ∙ n)

@@ -14,7 +14,7 @@ use Rattle.reference.specs.Promises.{GivesBack, LengthIsWritten, SameWriting}
 use Rattle.reference.proofs.Cases.{by-test, by-answer}
 use Rattle.reference.proofs.Numbers.{measuring-number, writing-number}
 use Rattle.reference.proofs.Measured.{length-is-written, only-used-matter}
-use Rattle.table.specs.Flat.{tablesFrom}
+use Rattle.table.specs.Flat.{tablesFrom, tableSize, Lent}
 use Rattle.table.specs.Filed.{SameEntries}
 use Rattle.table.proofs.Alike.{same-used}
 use Rattle.exact.specs.Exact.{exact}
@@ -28,14 +28,14 @@ use Rattle.ior_c.specs.Promises.{SameLength}
 use Rattle.ior_c.proofs.Calls.{asked-told, unasked-told, asked-given, unasked-given, unasked-exactly, is-sized}
 
 -- the table that an accepted reading left can be asked
-pub left-askable : (s t e : List ℕ) (n : ℕ) → length t ≡ 490 → Taken s t e n → (a : ℕ) → a ≡ 5 → askable e a ≡ true
+pub left-askable : (s t e : List ℕ) (n : ℕ) → Lent t → Taken s t e n → (a : ℕ) → a ≡ 5 → askable e a ≡ true
 unfolding askable
 left-askable s t e n l k a f =
     let h = k .leads in
-    and-both (is-sized 490 (length e) a (k .shows .long) f) (ap exact (k .left) ∙ read-exact t l (k .meaning) (h .formed) (h .room))
+    and-both (is-sized tableSize (length e) a (k .shows .long) f) (ap exact (k .left) ∙ read-exact t l (k .meaning) (h .formed) (h .room))
 
 -- writing the table that an accepted reading left, over the same octets, into an output with room
-pub left-written : (s t e : List ℕ) (n : ℕ) → length t ≡ 490 → (k : Taken s t e n) → (d a : List ℕ) (r : ℕ) (b f : List ℕ) → length a ≡ 5 → n ≤ length d → IorWrite e s d a r b f
+pub left-written : (s t e : List ℕ) (n : ℕ) → Lent t → (k : Taken s t e n) → (d a : List ℕ) (r : ℕ) (b f : List ℕ) → length a ≡ 5 → n ≤ length d → IorWrite e s d a r b f
     → (r ≡ 0) × (b ≡ 0 ∷ 0 ∷ 0 ∷ 0 ∷ n ∷ []) × (f ≡ leaves (tablesFrom e) s d) × (GivesBack s (k .meaning) n d f)
 left-written s t e n l k d a r b f five room w =
     let (p, q, h) = asked-given w (left-askable s t e n l k (length a) five) in
@@ -43,7 +43,7 @@ left-written s t e n l k d a r b f five room w =
     (p ∙ ap numberOf v, q ∙ ap numbersOf v, h, subst (GivesBack s (k .meaning) n d) (sym h) g)
 
 -- measuring it tells the part's length
-pub left-measured : (s t e : List ℕ) (n : ℕ) → length t ≡ 490 → Taken s t e n → (a : List ℕ) (r : ℕ) (b : List ℕ) → length a ≡ 5 → IorLength e s a r b
+pub left-measured : (s t e : List ℕ) (n : ℕ) → Lent t → Taken s t e n → (a : List ℕ) (r : ℕ) (b : List ℕ) → length a ≡ 5 → IorLength e s a r b
     → (r ≡ 0) × (b ≡ 0 ∷ 0 ∷ 0 ∷ 0 ∷ n ∷ [])
 left-measured s t e n l k a r b five w =
     let (p, q) = asked-told w (left-askable s t e n l k (length a) five) in
@@ -63,7 +63,7 @@ module _ (t s a : List ℕ) (r : ℕ) (b : List ℕ) where
 pub alike : (t t′ : List ℕ) → length t ≡ length t′ → SameEntries t t′ → (s d : List ℕ) (answer : ℕ) → (askable t answer ≡ askable t′ answer) × (SameWriting (tablesFrom t) (tablesFrom t′) s d)
 unfolding askable
 alike t t′ l h s d answer = (
-  ap₂ (λ (n : ℕ) (b : Bool). sized 490 n answer && b) l (same-exact t t′ h),
+  ap₂ (λ (n : ℕ) (b : Bool). sized tableSize n answer && b) l (same-exact t t′ h),
   only-used-matter (tablesFrom t) (tablesFrom t′) (same-used t t′ h) s d,
 )
 

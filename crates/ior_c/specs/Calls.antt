@@ -11,7 +11,7 @@ use Rattle.reference.specs.Steps.{seen, pick}
 use Rattle.reference.specs.Writer.{measured, written, leaves}
 use Rattle.reference.specs.Questions.{kindOf, tapNumbersOf, firstBiop, dvbAddress}
 use Rattle.reference.specs.Names.{readShortName, shortAt, shortWritten, shortLeaves}
-use Rattle.table.specs.Flat.{tablesFrom, nameFrom}
+use Rattle.table.specs.Flat.{tablesFrom, nameFrom, tableSize}
 use Rattle.reading.specs.Into.{tableLeft}
 use Rattle.ior_c.specs.Said.{numberOf, numbersOf, Tells, Gives, sized, askable, tapAsked, kindNumber, typeNumber, tapResult, tapPair, firstSaid, nameSaid, nameLeft, truth}
 
@@ -19,11 +19,11 @@ use Rattle.ior_c.specs.Said.{numberOf, numbersOf, Tells, Gives, sized, a
 
 -- ior_read(s, table, answer)
 abbrev pub IorRead : (s t a : List ℕ) (r : ℕ) (b e : List ℕ) → Type 0
-IorRead s t a r b e = Gives (sized 490 (length t) (length a)) (answered (readLeading s) .answer) (tableLeft (readLeading s) t) a t r b e
+IorRead s t a r b e = Gives (sized tableSize (length t) (length a)) (answered (readLeading s) .answer) (tableLeft (readLeading s) t) a t r b e
 
 -- ior_read_whole(s, table, answer)
 abbrev pub IorReadWhole : (s t a : List ℕ) (r : ℕ) (b e : List ℕ) → Type 0
-IorReadWhole s t a r b e = Gives (sized 490 (length t) (length a)) (answered (readWhole s) .answer) (tableLeft (readWhole s) t) a t r b e
+IorReadWhole s t a r b e = Gives (sized tableSize (length t) (length a)) (answered (readWhole s) .answer) (tableLeft (readWhole s) t) a t r b e
 
 -- ior_length(table, s, answer)
 abbrev pub IorLength : (t s a : List ℕ) (r : ℕ) (b : List ℕ) → Type 0
@@ -59,4 +59,4 @@ IorNameRead s v a r b e = Gives (sized 4 (length v) (length a)) (nameSaid (seen 
 
 -- ior_name_write(name, s, out, answer)
 abbrev pub IorNameWrite : (v s d a : List ℕ) (r : ℕ) (b f : List ℕ) → Type 0
-IorNameWrite v s d a r b f = Gives (sized 4 (length v) (length a)) (shortWritten (nameFrom v) s d) (shortLeaves (nameFrom v) s d) a d r b f
+IorNameWrite v s d a r b f = Gives (sized 4 (length v) (length a)) (shortWritten (nameFrom v 0) s d) (shortLeaves (nameFrom v 0) s d) a d r b f

@@ -8,7 +8,7 @@ use Rattle.reference.specs.Meaning.{Reference}
 use Rattle.reference.specs.Checks.{Among}
 use Rattle.reference.specs.Contents.{said}
 use Rattle.reference.specs.Promises.{GivesBack, SameUsed}
-use Rattle.table.specs.Flat.{tablesFrom}
+use Rattle.table.specs.Flat.{tablesFrom, Lent}
 use Rattle.ior_c.specs.Calls.{IorReadWhole, IorWrite}
 
 -- ior_length answered q and left c, ior_write of the same table answered r and left b: one length, that of the image l; and 6, 8, 9, 10 and 255 alike.
@@ -28,7 +28,7 @@ pub record Read (s : List ℕ) : Type 0 where
   pub result : ℕ
   pub told : List ℕ
   pub left : List ℕ
-  pub lent : length table ≡ 490
+  pub lent : Lent table
   pub five : length answer ≡ 5
   pub call : IorReadWhole s table answer result told left
 

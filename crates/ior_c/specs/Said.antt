@@ -17,7 +17,7 @@ use Rattle.reference.specs.declared.TapNumbers.{TapNumbers}
 use Rattle.reference.specs.declared.TapNumbers.the-variants.{Both, Neither}
 use Rattle.reference.specs.declared.FirstBiop.{FirstBiop}
 use Rattle.reference.specs.declared.FirstBiop.the-variants as Firsts
-use Rattle.table.specs.Flat.{nameNumbers}
+use Rattle.table.specs.Flat.{nameNumbers, tableSize}
 use Rattle.exact.specs.Exact.{exact}
 
 -- ---- an answer: the refusal's number, its place and figures, and the count; what is not named is 0
@@ -47,7 +47,7 @@ unfoldable pub sized : ℕ → ℕ → ℕ → Bool
 sized n array answer = eqb array n && eqb answer 5
 
 unfoldable pub askable : List ℕ → ℕ → Bool
-askable t answer = sized 490 (length t) answer && exact t
+askable t answer = sized tableSize (length t) answer && exact t
 
 unfoldable pub tapAsked : ℕ → ℕ → Bool
 tapAsked uses pair = leb uses 65535 && eqb pair 2

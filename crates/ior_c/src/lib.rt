@@ -5,7 +5,7 @@
 ghost use mathlib.Core.Path.{_≡_};
 ghost use lib.ListN.{length};
 ghost use Rattle.reference.specs.Questions.{firstBiop};
-ghost use Rattle.table.specs.Flat.{tablesFrom, nameFrom, nameNumbers};
+ghost use Rattle.table.specs.Flat.{tablesFrom, nameFrom, nameNumbers, Lent};
 ghost use Rattle.ior_c.specs.Calls.{IorRead, IorReadWhole, IorLength, IorWrite, IorKind, IorTap, IorFirstBiop, IorDvbAddress, IorNameRead, IorNameWrite};
 ghost use Rattle.ior_c.specs.Said.{numberOf, numbersOf, sized, askable, kindNumber, typeNumber, tapResult, tapPair, firstSaid};
 use entries::sort_at;
@@ -26,12 +26,16 @@ use reading::read_whole_into;
 use reference::Answer;
 use reference::NameComponent;
 use reference::ObjectKind;
+use reference::PLACE_PROFILES;
 use reference::PROFILES;
 use reference::TapNumbers;
 use reference::View;
 use reference::wrong;
 use table::BIOP;
+use table::PROFILES_USED;
 use table::SIZE;
+use table::number_at;
+use table::put_all;
 use writing::write_from;
 use writing::write_measured;
 
@@ -239,12 +243,12 @@ pub extern "C" fn ior_tap(uses: u32, selector: &[u8], pair: &mut [u32]) -> u32
 
 // The index of the first BIOP profile among the used ones, or 8 where there is none; refused with 8 if more are used than the table has.
 fn first_of(table: &[u32]) -> Answer
-    requires { ⌜ length (now table) ≡ 490 ⌝ }
+    requires { ⌜ Lent (now table) ⌝ }
     ensures { λ r. ⌜ r ≡ firstSaid (firstBiop (tablesFrom (now (table .entry)))) ⌝ }
 {
-    let used = table[2] as usize;
+    let used = number_at(table, PROFILES_USED);
     if PROFILES < used {
-        return Answer::Refused(wrong(8, 40));
+        return Answer::Refused(wrong(8, PLACE_PROFILES));
     }
     let mut i: usize = 0;
     while i < used {
@@ -289,16 +293,14 @@ fn put_views(name: NameComponent, out: &mut [u32])
     requires { ⌜ length (now out) ≡ 4 ⌝ }
     ensures { λ r. ⌜ now (out .exit) ≡ nameNumbers name ⌝ }
 {
-    out[0] = name.id.at;
-    out[1] = name.id.len;
-    out[2] = name.kind.at;
-    out[3] = name.kind.len;
+    let numbers = [name.id.at, name.id.len, name.kind.at, name.kind.len];
+    put_all(&numbers, out, 0);
 }
 
 // The name that such numbers tell.
 fn views_of(name: &[u32]) -> NameComponent
     requires { ⌜ length (now name) ≡ 4 ⌝ }
-    ensures { λ r. ⌜ r ≡ nameFrom (now (name .entry)) ⌝ }
+    ensures { λ r. ⌜ r ≡ nameFrom (now (name .entry)) 0 ⌝ }
 {
     NameComponent {
         id: View {

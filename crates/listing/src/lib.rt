@@ -7,9 +7,11 @@ use cache::put_rows;
 use intake::fetch;
 use libc::STDOUT_FILENO;
 use outcome::Outcome;
-ghost use Prim.Native.Nat.{_+_, _≤_, _<_};
+use table::SIZE;
+ghost use Prim.Native.Nat.{_≤_};
 ghost use lib.ListN.{length};
 ghost use mathlib.Core.Path.{_≡_};
+ghost use Rattle.table.specs.Flat.{Lent};
 
 // Octets of input held at once; a record has at most 65,539.
 const ROOM: usize = 262144;
@@ -70,7 +72,7 @@ fn end(is_failure: bool, left: usize, seen: u64, at: u64) -> Outcome {
 
 // Lists what comes from `fd`, of which nothing has come yet.
 fn list_blocks(fd: i32, room: &mut [u8], table: &mut [u32], page: &mut [u8]) -> Outcome
-    requires { ⌜ (length (now room) ≡ 262144) × (length (now table) ≡ 490) × (length (now page) ≡ 65536) ⌝ }
+    requires { ⌜ (length (now room) ≡ 262144) × Lent (now table) × (length (now page) ≡ 65536) ⌝ }
 {
     // `came` octets came so far; those from `from` to before `to` in the room are the last of them, and are not listed yet.
     let mut came: u64 = 0;
@@ -101,7 +103,7 @@ fn list_blocks(fd: i32, room: &mut [u8], table: &mut [u32], page: &mut [u8]) -> 
 // Lists what comes from `fd`, however long it is.
 pub fn list(fd: i32) -> Outcome {
     let mut room = [0u8; ROOM];
-    let mut table = [0u32; 490];
+    let mut table = [0u32; SIZE];
     let mut page = [0u8; PAGE];
     if !write_heading() {
         return Outcome::NotWritten;

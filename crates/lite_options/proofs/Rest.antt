@@ -23,7 +23,7 @@ use Rattle.reference.proofs.Shown.{length-address}
 use Rattle.reference.specs.Places.{place-context-length, place-lite-extra, place-lite-leftover, place-service-leftover}
 use Rattle.table.specs.declared.Counts.{Counts}
 use Rattle.table.specs.Region.{stored}
-use Rattle.table.specs.Flat.{profileRegion, nameRegion, extraRegion}
+use Rattle.table.specs.Flat.{profileRegion, nameRegion, extraRegion, Lent}
 use Rattle.table.specs.Filed.{profileFiled}
 use Rattle.table.proofs.Filed.{filed-lite}
 use Rattle.components.specs.Told.{Filled, bodyKept}
@@ -53,7 +53,7 @@ module _ (at : ℕ) (t : List ℕ) (i : ℕ) (u : Counts) (d : List ℕ) (h : Li
       no-extras w = rw (e, q, w)
 
       -- what was read stands where the definition says, and is as much
-      pub all-filed : {es : List Extra} {last : ℕ} {t₁ t₂ t₃ : List ℕ} {a : NsapAddress} {v : View} → Octets d → 35 ≤ h .stop → h .stop ≤ length d → length t ≡ 490
+      pub all-filed : {es : List Extra} {last : ℕ} {t₁ t₂ t₃ : List ℕ} {a : NsapAddress} {v : View} → Octets d → 35 ≤ h .stop → h .stop ≤ length d → Lent t
           → readLiteExtras (h .extras) d mid (length d) ≡ ok es last
           → t₁ ≡ stored nameRegion t (u .names) (placed nameAt layoutName (at + 8 + 35) ns)
           → t₂ ≡ stored extraRegion t₁ (u .extras) (placed extraAt layoutExtra (at + 8 + mid) es)

@@ -1,5 +1,5 @@
 -- A list whose elements a function of the index tells, as a loop meets them: the used entries of a lent table, and some of them in a row. Assumes nothing.
-use Prim.Native.Nat.{ℕ, suc, _+_, _*_, _<_, _≤_}
+use Prim.Native.Nat.{ℕ, suc, _+_, _<_, _≤_}
 use mathlib.Core.Path.{_≡_, sym, ap, _∙_}
 use mathlib.Core.List.{List, [], _∷_}
 use native.Mathlib.Numerals.{add-one}
@@ -8,8 +8,8 @@ use lib.ListN.{length, take, drop, getD, drop-of-length-le}
 use lib.Seq.{drop-cons, getD-take, length-take-le}
 use Rattle.octets.specs.Octets.{part}
 use Rattle.octets.proofs.Part.{length-part, part-get}
-use Rattle.table.specs.Region.{chunks}
-use Rattle.table.proofs.Chunks.{chunks-length, entry-get}
+use Rattle.table.specs.Region.{listed}
+use Rattle.table.proofs.Listed.{listed-length, listed-get}
 
 pub record Listed {E : Type 0} (xs : List E) (e : ℕ → E) (n : ℕ) : Type 0 where
   pub size : length xs ≡ n
@@ -32,12 +32,7 @@ module _ {E : Type 0} {xs : List E} {e : ℕ → E} {n : ℕ} (l : Listed xs e n
         tells = λ i z k. sym (part-get xs first count i z k) ∙ l .tells (first + i) z (omega arith);
       }
 
--- the first n of m entries of w numbers each, which stand in t from s on
-pub listed : {E : Type 0} (from : List ℕ → E) (w : ℕ) (t : List ℕ) (s m n : ℕ) → n ≤ m
-    → Listed (take n (chunks from w m (drop s t))) (λ k. from (part t (s + w * k) w)) n
-listed from w t s m n h =
-    let l = chunks from w m (drop s t) in
-    record {
-      size = length-take-le n l (omega (arith, chunks-length from w m (drop s t)));
-      tells = λ i z k. getD-take n l i z k ∙ entry-get from w s m t i z (omega arith);
-    }
+-- the first n of m
+pub first-listed : {E : Type 0} (e : ℕ → E) (m n : ℕ) → n ≤ m → Listed (take n (listed m e)) e n
+first-listed e m n h =
+    record { size = length-take-le n (listed m e) (omega (arith, listed-length m e)); tells = λ i z k. getD-take n (listed m e) i z k ∙ listed-get m e i z (omega arith) }

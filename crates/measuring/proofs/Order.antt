@@ -3,7 +3,6 @@ use Prim.Native.Nat.{ℕ, _<_, _≤_}
 use mathlib.Core.Path.{_≡_, refl, sym, ap, _∙_}
 use mathlib.Core.List.{List}
 use native.Mathlib.Omega.{arith}
-use lib.ListN.{getD}
 use Rattle.reference.specs.declared.Refusal.{Refusal}
 use Rattle.reference.specs.declared.Tables.{Tables}
 use Rattle.reference.specs.declared.Check.{Check}
@@ -15,27 +14,25 @@ use Rattle.reference.specs.Checks.{both}
 use Rattle.reference.specs.Writer.{sizeOf, sourceCheck, usedCheck, sumCheck, countsCheck, viewsCheck, imageCheck, measureCheck, told}
 use Rattle.reference.proofs.Checks.{stop, go, le-test, lt-test}
 use Rattle.table.specs.declared.Counts.{Counts}
-use Rattle.table.specs.Flat.{tablesFrom}
+use Rattle.table.specs.Flat.{tablesFrom, profileRegion, profilesUsed, tapsUsed, namesUsed, extrasUsed}
 use Rattle.measuring.specs.ByTable.{sumsOf}
 
 -- ---- 8, over a lent table
 
-pub too-many-profiles : (t : List ℕ) → 8 < getD t 2 0 → countsCheck (tablesFrom t) ≡ Refuse (refusal 8 40 0 0)
+pub too-many-profiles : (t : List ℕ) → profileRegion .size < profilesUsed t → countsCheck (tablesFrom t) ≡ Refuse (refusal 8 40 0 0)
 unfolding countsCheck tablesFrom
-too-many-profiles t h = stop (usedCheck 40 8 (getD t 2 0)) _ _ (lt-test (getD t 2 0) 8 _ h)
+too-many-profiles t h = stop (usedCheck 40 8 (profilesUsed t)) _ _ (lt-test (profilesUsed t) 8 _ h)
 
 -- .. and after them each table
 abbrev table-check : ℕ → ℕ → ℕ → ℕ → Check
 table-check place size total used = both (usedCheck place size used) (sumCheck place total used)
 
-pub table-by-table : (t : List ℕ) → getD t 2 0 ≤ 8 → (s : Counts) → s ≡ sumsOf t
-    → both (both (usedCheck 41 36 (getD t 3 0)) (sumCheck 41 (s .taps) (getD t 3 0)))
-    (both (both (usedCheck 42 32 (getD t 4 0)) (sumCheck 42 (s .names) (getD t 4 0))) (both (usedCheck 43 32 (getD t 5 0)) (sumCheck 43 (s .extras) (getD t 5 0))))
-    ≡ countsCheck (tablesFrom t)
+pub table-by-table : (t : List ℕ) → profilesUsed t ≤ profileRegion .size → (s : Counts) → s ≡ sumsOf t → {taps names extras : ℕ} → taps ≡ tapsUsed t → names ≡ namesUsed t → extras ≡ extrasUsed t
+    → both (table-check 41 36 (s .taps) taps) (both (table-check 42 32 (s .names) names) (table-check 43 32 (s .extras) extras)) ≡ countsCheck (tablesFrom t)
 unfolding countsCheck tablesFrom
-table-by-table t h s e =
-    ap (λ (x : Counts). both (table-check 41 36 (x .taps) (getD t 3 0)) (both (table-check 42 32 (x .names) (getD t 4 0)) (table-check 43 32 (x .extras) (getD t 5 0)))) e
-    ∙ sym (go (usedCheck 40 8 (getD t 2 0)) _ (le-test (getD t 2 0) 8 _ h))
+table-by-table t h s e taps names extras =
+    (λ j. both (table-check 41 36 (e j .taps) (taps j)) (both (table-check 42 32 (e j .names) (names j)) (table-check 43 32 (e j .extras) (extras j))))
+    ∙ sym (go (usedCheck 40 8 (profilesUsed t)) _ (le-test (profilesUsed t) 8 _ h))
 
 -- ---- what an answer says of its check
 

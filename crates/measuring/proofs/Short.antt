@@ -7,7 +7,7 @@ use mathlib.Core.Bool.{Bool, true, false}
 use mathlib.Core.List.{List}
 use native.Mathlib.Omega.{arith}
 use lib.Dec.{eqb}
-use lib.ListN.{length, getD, take}
+use lib.ListN.{getD, take}
 use Rattle.octets.specs.Octets.{part}
 use Rattle.reference.specs.declared.Tap.{Tap}
 use Rattle.reference.specs.declared.LiteComponent.{LiteComponent}
@@ -23,8 +23,7 @@ use Rattle.reference.specs.Meaning.{sum}
 use Rattle.reference.specs.Writer.{tapSize, counted, shortCheck, extraShort, ownShort}
 use Rattle.reference.proofs.Checks.{stop, go}
 use Rattle.reference.proofs.Walk.{ahead, ahead-open, ahead-end, counted-open, counted-within}
-use Rattle.table.specs.Flat.{bodyFrom, bodyOfTable}
-use Rattle.table.proofs.Entries.{profileOfTable}
+use Rattle.table.specs.Flat.{bodyFrom, bodyOfTable, Lent, profilesUsed, profileOfTable}
 use Rattle.entries.proofs.Sorts.{body-biop, body-lite, body-opaque}
 use Rattle.measuring.specs.ByTable.{usedIn}
 use Rattle.measuring.specs.Short.{shortAt, shortHere, Within}
@@ -40,17 +39,17 @@ module _ (ts : List Tap) (es : List LiteComponent) (a c : ℕ) where
   abbrev biopAt : TaggedProfile → Check
   biopAt b = both (shortCheck (9 + bodyView b .len)) (both (shortCheck (1 + sum tapSize (part ts a (tapsIn b)))) (extrasAt b))
 
-  module _ (l : List ℕ) where
-    pub short-biop : getD l 0 0 ≡ 1 → biopAt (bodyFrom l) ≡ shortAt ts es a c (bodyFrom l)
-    short-biop e = ap biopAt (body-biop l e) ∙ sym (ap (shortAt ts es a c) (body-biop l e))
+  module _ (t : List ℕ) (k : ℕ) where
+    pub short-biop : getD t k 0 ≡ 1 → biopAt (bodyFrom t k) ≡ shortAt ts es a c (bodyFrom t k)
+    short-biop e = ap biopAt (body-biop t k e) ∙ sym (ap (shortAt ts es a c) (body-biop t k e))
 
-    pub short-other : getD l 0 0 ≢ 1 → extrasAt (bodyFrom l) ≡ shortAt ts es a c (bodyFrom l)
+    pub short-other : getD t k 0 ≢ 1 → extrasAt (bodyFrom t k) ≡ shortAt ts es a c (bodyFrom t k)
     unfolding each
-    short-other h = by-sort (eqb (getD l 0 0) 2) refl
+    short-other h = by-sort (eqb (getD t k 0) 2) refl
       where
-        by-sort : (b : Bool) → eqb (getD l 0 0) 2 ≡ b → extrasAt (bodyFrom l) ≡ shortAt ts es a c (bodyFrom l)
-        by-sort true e = let q = body-lite l (eqb-true _ _ e) in ap extrasAt q ∙ sym (ap (shortAt ts es a c) q)
-        by-sort false e = let q = body-opaque l h (eqb-false _ _ e) in ap extrasAt q ∙ sym (ap (shortAt ts es a c) q)
+        by-sort : (b : Bool) → eqb (getD t k 0) 2 ≡ b → extrasAt (bodyFrom t k) ≡ shortAt ts es a c (bodyFrom t k)
+        by-sort true e = let q = body-lite t k (eqb-true _ _ e) in ap extrasAt q ∙ sym (ap (shortAt ts es a c) q)
+        by-sort false e = let q = body-opaque t k h (eqb-false _ _ e) in ap extrasAt q ∙ sym (ap (shortAt ts es a c) q)
 
 -- ---- the profiles in a row
 
@@ -68,10 +67,10 @@ pub passed-begin : {t : List ℕ} → Passed t 0 0 0
 passed-begin = record { taps = refl; extras = refl; rest = refl }
 
 module _ {t : List ℕ} (g : Agreeing t) {tap extra i : ℕ} (p : Passed t tap extra i) where
-  profiles-here : Listed (usedIn t .profiles) (λ k. profileOfTable t k) (getD t 2 0)
+  profiles-here : Listed (usedIn t .profiles) (profileOfTable t) (profilesUsed t)
   profiles-here = profiles-listed t (g .profiles)
 
-  pub passed-end : getD t 2 0 ≤ i → Pass ≡ each ownShort (ownedOf (usedIn t))
+  pub passed-end : profilesUsed t ≤ i → Pass ≡ each ownShort (ownedOf (usedIn t))
   unfolding each
   passed-end h =
       let u = usedIn t in
@@ -79,7 +78,7 @@ module _ {t : List ℕ} (g : Agreeing t) {tap extra i : ℕ} (p : Passed t tap e
       let none = ahead-end (u .profiles) (u .taps) (u .names) (u .extras) noProfile i tap b extra (omega (arith, profiles-here .size)) in
       sym (ap (each ownShort) none) ∙ p .rest
 
-  module _ (h : i < getD t 2 0) where
+  module _ (h : i < profilesUsed t) where
     body-here : getD (usedIn t .profiles) i noProfile .body ≡ bodyOfTable t i
     body-here = ap (λ (x : Entry). x .body) (profiles-here .tells i noProfile h)
 
@@ -89,7 +88,7 @@ module _ {t : List ℕ} (g : Agreeing t) {tap extra i : ℕ} (p : Passed t tap e
         ap (λ (b : TaggedProfile). counted f (take i (usedIn t .profiles)) + f b) (sym body-here)
         ∙ counted-open f (usedIn t .profiles) i noProfile (omega (arith, profiles-here .size))
 
-    pub passed-within : length t ≡ 490 → Within t i tap extra
+    pub passed-within : Lent t → Within t i tap extra
     passed-within n =
         let ps = usedIn t .profiles in
         record {

@@ -2,35 +2,33 @@
 use Prim.Native.Nat.{ℕ, _≤_}
 use mathlib.Core.Path.{_≡_}
 use mathlib.Core.List.{List}
-use lib.ListN.{getD}
 use Rattle.reference.specs.declared.Check.the-variants.{Pass}
 use Rattle.reference.specs.Writer.{countsCheck}
 use Rattle.reference.proofs.Agreeing as Counts
-use Rattle.table.specs.Flat.{tablesFrom, profileFrom, tapFrom, nameFrom, extraFrom, tapOfTable, nameOfTable, extraOfTable}
-use Rattle.table.proofs.Entries.{profileOfTable}
+use Rattle.table.specs.Flat.{tablesFrom, tapOfTable, nameOfTable, extraOfTable, profileRegion, tapRegion, nameRegion, extraRegion, profilesUsed, tapsUsed, namesUsed, extrasUsed, profileOfTable}
 use Rattle.measuring.specs.ByTable.{usedIn}
-use Rattle.measuring.proofs.Listed.{Listed, listed}
+use Rattle.measuring.proofs.Listed.{Listed, first-listed}
 
 module _ (t : List ℕ) where
-  pub profiles-listed : getD t 2 0 ≤ 8 → Listed (usedIn t .profiles) (λ k. profileOfTable t k) (getD t 2 0)
+  pub profiles-listed : profilesUsed t ≤ profileRegion .size → Listed (usedIn t .profiles) (profileOfTable t) (profilesUsed t)
   unfolding tablesFrom
-  profiles-listed h = listed profileFrom 10 t 6 8 (getD t 2 0) h
+  profiles-listed h = first-listed (profileOfTable t) (profileRegion .size) (profilesUsed t) h
 
-  pub taps-listed : getD t 3 0 ≤ 36 → Listed (usedIn t .taps) (λ k. tapOfTable t k) (getD t 3 0)
+  pub taps-listed : tapsUsed t ≤ tapRegion .size → Listed (usedIn t .taps) (tapOfTable t) (tapsUsed t)
   unfolding tablesFrom
-  taps-listed h = listed tapFrom 5 t 86 36 (getD t 3 0) h
+  taps-listed h = first-listed (tapOfTable t) (tapRegion .size) (tapsUsed t) h
 
-  pub names-listed : getD t 4 0 ≤ 32 → Listed (usedIn t .names) (λ k. nameOfTable t k) (getD t 4 0)
+  pub names-listed : namesUsed t ≤ nameRegion .size → Listed (usedIn t .names) (nameOfTable t) (namesUsed t)
   unfolding tablesFrom
-  names-listed h = listed nameFrom 4 t 266 32 (getD t 4 0) h
+  names-listed h = first-listed (nameOfTable t) (nameRegion .size) (namesUsed t) h
 
-  pub extras-listed : getD t 5 0 ≤ 32 → Listed (usedIn t .extras) (λ k. extraOfTable t k) (getD t 5 0)
+  pub extras-listed : extrasUsed t ≤ extraRegion .size → Listed (usedIn t .extras) (extraOfTable t) (extrasUsed t)
   unfolding tablesFrom
-  extras-listed h = listed extraFrom 3 t 394 32 (getD t 5 0) h
+  extras-listed h = first-listed (extraOfTable t) (extraRegion .size) (extrasUsed t) h
 
 -- used counts within the sizes, and equal to the sums
 abbrev pub Agreeing : List ℕ → Type 0
-Agreeing t = Counts.Agreeing (usedIn t .profiles) (getD t 2 0) (getD t 3 0) (getD t 4 0) (getD t 5 0)
+Agreeing t = Counts.Agreeing (usedIn t .profiles) (profilesUsed t) (tapsUsed t) (namesUsed t) (extrasUsed t)
 
 pub agreeing : (t : List ℕ) → countsCheck (tablesFrom t) ≡ Pass → Agreeing t
 unfolding tablesFrom

@@ -1,8 +1,6 @@
 -- Check 2 of one profile of a lent table, whose taps and extras begin at given entries. Assumes nothing.
 use Prim.Native.Nat.{ℕ, _+_, _<_, _≤_}
-use mathlib.Core.Path.{_≡_}
 use mathlib.Core.List.{List}
-use lib.ListN.{length, getD}
 use Rattle.octets.specs.Octets.{part}
 use Rattle.reference.specs.declared.Tap.{Tap}
 use Rattle.reference.specs.declared.LiteComponent.{LiteComponent}
@@ -10,7 +8,7 @@ use Rattle.reference.specs.declared.TaggedProfile.{TaggedProfile}
 use Rattle.reference.specs.declared.Check.{Check}
 use Rattle.reference.specs.Used.{tapsIn, extrasIn}
 use Rattle.reference.specs.Writer.{bodyShort}
-use Rattle.table.specs.Flat.{bodyOfTable}
+use Rattle.table.specs.Flat.{bodyOfTable, profileRegion, tapRegion, extraRegion, Lent, tapsUsed, extrasUsed}
 use Rattle.measuring.specs.ByTable.{usedIn}
 
 -- of a profile with its entries among those of the tables
@@ -23,9 +21,9 @@ shortHere t i tap extra = shortAt (usedIn t .taps) (usedIn t .extras) tap extra 
 
 -- the entries of profile i lie within the used ones
 pub record Within (t : List ℕ) (i tap extra : ℕ) : Type 0 where
-  pub numbers : length t ≡ 490
-  pub profile : i < 8
-  pub taps : getD t 3 0 ≤ 36
-  pub extras : getD t 5 0 ≤ 32
-  pub tapsWithin : tap + tapsIn (bodyOfTable t i) ≤ getD t 3 0
-  pub extrasWithin : extra + extrasIn (bodyOfTable t i) ≤ getD t 5 0
+  pub numbers : Lent t
+  pub profile : i < profileRegion .size
+  pub taps : tapsUsed t ≤ tapRegion .size
+  pub extras : extrasUsed t ≤ extraRegion .size
+  pub tapsWithin : tap + tapsIn (bodyOfTable t i) ≤ tapsUsed t
+  pub extrasWithin : extra + extrasIn (bodyOfTable t i) ≤ extrasUsed t

@@ -2,7 +2,6 @@
 // makes. No size is summed twice, and a profile's entry is read number by number.
 ghost use mathlib.Core.Path.{_≡_};
 ghost use Prim.Native.Nat.{_+_, _≤_, _<_};
-ghost use lib.ListN.{length, getD};
 ghost use Rattle.octets.specs.Octets.{part};
 ghost use Rattle.reference.specs.declared.Check.the-variants.{Pass};
 ghost use Rattle.reference.specs.Checks.{both, each};
@@ -10,7 +9,7 @@ ghost use Rattle.reference.specs.Meaning.{sum};
 ghost use Rattle.reference.specs.Tabled.{usedOf};
 ghost use Rattle.reference.specs.Used.{ownedOf};
 ghost use Rattle.reference.specs.Writer.{tapSize, nameSize, extraSize, sizeOf, told, measured, usedCheck, sumCheck, countsCheck, viewCheck, entryViews, tapViews, nameViews, extraViews, viewsCheck, shortCheck, extraShort, ownShort, measureCheck};
-ghost use Rattle.table.specs.Flat.{tablesFrom, bodyOfTable};
+ghost use Rattle.table.specs.Flat.{tablesFrom, bodyOfTable, profileRegion, tapRegion, nameRegion, extraRegion, Lent, profilesUsed, tapsUsed, namesUsed, extrasUsed};
 ghost use Rattle.measuring.specs.ByTable.{fixedSize, entrySize, usedIn, sumsOf, measuredEach, countOf, added};
 ghost use Rattle.measuring.specs.Short.{shortHere, Within};
 use entries::extra_at;
@@ -29,6 +28,10 @@ use reference::LiteComponent;
 use reference::MOST;
 use reference::NAMES;
 use reference::NameComponent;
+use reference::PLACE_EXTRAS;
+use reference::PLACE_NAMES;
+use reference::PLACE_PROFILES;
+use reference::PLACE_TAPS;
 use reference::PROFILES;
 use reference::TAPS;
 use reference::Tap;
@@ -39,18 +42,16 @@ use reference::too_long;
 use reference::wrong;
 use table::BIOP;
 use table::Counts;
+use table::EXTRAS_USED;
 use table::LITE_OPTIONS;
+use table::NAMES_USED;
+use table::PROFILES_USED;
+use table::TAPS_USED;
+use table::TYPE_ID;
+use table::number_at;
 
-// The places of the tables in a refusal.
+// The place of the type id in a refusal.
 const PLACE_TYPE_ID: u8 = 0;
-
-const PLACE_PROFILES: u8 = 40;
-
-const PLACE_TAPS: u8 = 41;
-
-const PLACE_NAMES: u8 = 42;
-
-const PLACE_EXTRAS: u8 = 43;
 
 // The octets of an entry's fixed fields. Front: the type id's length and the profile count; tap: id, use, association, selector length; name: both
 // lengths; extra: tag and length.
@@ -89,10 +90,10 @@ fn then(first: Check, second: Check) -> Check
 
 // 8: the sums of the profiles' counts. Eight counts of 32 bits never wrap.
 fn sum_counts(t: &[u32]) -> Counts
-    requires { ⌜ (length (now t) ≡ 490) × (getD (now t) 2 0 ≤ 8) ⌝ }
+    requires { ⌜ Lent (now t) × (profilesUsed (now t) ≤ profileRegion .size) ⌝ }
     ensures { λ r. ⌜ r ≡ sumsOf (now (t .entry)) ⌝ }
 {
-    let used = t[2] as usize;
+    let used = number_at(t, PROFILES_USED);
     let mut taps: usize = 0;
     let mut names: usize = 0;
     let mut extras: usize = 0;
@@ -124,16 +125,16 @@ fn check_used(used: usize, size: usize, total: usize, place: u8) -> Check
 }
 
 fn check_counts(t: &[u32]) -> Check
-    requires { ⌜ length (now t) ≡ 490 ⌝ }
+    requires { ⌜ Lent (now t) ⌝ }
     ensures { λ r. ⌜ r ≡ countsCheck (tablesFrom (now (t .entry))) ⌝ }
 {
-    if PROFILES < t[2] as usize {
+    if PROFILES < number_at(t, PROFILES_USED) {
         return Check::Refuse(wrong(8, PLACE_PROFILES));
     }
     let sums = sum_counts(t);
-    let taps = check_used(t[3] as usize, TAPS, sums.taps, PLACE_TAPS);
-    let names = check_used(t[4] as usize, NAMES, sums.names, PLACE_NAMES);
-    let extras = check_used(t[5] as usize, EXTRAS, sums.extras, PLACE_EXTRAS);
+    let taps = check_used(number_at(t, TAPS_USED), TAPS, sums.taps, PLACE_TAPS);
+    let names = check_used(number_at(t, NAMES_USED), NAMES, sums.names, PLACE_NAMES);
+    let extras = check_used(number_at(t, EXTRAS_USED), EXTRAS, sums.extras, PLACE_EXTRAS);
     then(taps, then(names, extras))
 }
 
@@ -178,7 +179,7 @@ fn extra_size(extra: LiteComponent) -> usize
 
 // The octets of a profile's header and fixed fields.
 fn fixed_size(t: &[u32], i: usize) -> usize
-    requires { ⌜ (i < 8) × (length (now t) ≡ 490) ⌝ }
+    requires { ⌜ (i < profileRegion .size) × Lent (now t) ⌝ }
     ensures { λ r. ⌜ (r ≡ fixedSize (bodyOfTable (now (t .entry)) i)) × (r < 48) ⌝ }
 {
     let sort = sort_at(t, i);
@@ -193,10 +194,10 @@ fn fixed_size(t: &[u32], i: usize) -> usize
 
 // 9 for the views of each table, and the octets of its entries.
 fn measure_profiles(t: &[u32], n: usize) -> Answer
-    requires { ⌜ (length (now t) ≡ 490) × (getD (now t) 2 0 ≤ 8) ⌝ }
+    requires { ⌜ Lent (now t) × (profilesUsed (now t) ≤ profileRegion .size) ⌝ }
     ensures { λ r. ⌜ (r ≡ measuredEach (entryViews n) entrySize (usedIn (now (t .entry)) .profiles)) × (countOf r < 0x10000000000) ⌝ }
 {
-    let used = t[2] as usize;
+    let used = number_at(t, PROFILES_USED);
     let mut total: usize = 0;
     let mut i: usize = 0;
     while i < used {
@@ -212,10 +213,10 @@ fn measure_profiles(t: &[u32], n: usize) -> Answer
 }
 
 fn measure_taps(t: &[u32], n: usize) -> Answer
-    requires { ⌜ (length (now t) ≡ 490) × (getD (now t) 3 0 ≤ 36) ⌝ }
+    requires { ⌜ Lent (now t) × (tapsUsed (now t) ≤ tapRegion .size) ⌝ }
     ensures { λ r. ⌜ (r ≡ measuredEach (tapViews n) tapSize (usedIn (now (t .entry)) .taps)) × (countOf r < 0x10000000000) ⌝ }
 {
-    let used = t[3] as usize;
+    let used = number_at(t, TAPS_USED);
     let mut total: usize = 0;
     let mut i: usize = 0;
     while i < used {
@@ -232,10 +233,10 @@ fn measure_taps(t: &[u32], n: usize) -> Answer
 }
 
 fn measure_names(t: &[u32], n: usize) -> Answer
-    requires { ⌜ (length (now t) ≡ 490) × (getD (now t) 4 0 ≤ 32) ⌝ }
+    requires { ⌜ Lent (now t) × (namesUsed (now t) ≤ nameRegion .size) ⌝ }
     ensures { λ r. ⌜ (r ≡ measuredEach (nameViews n) nameSize (usedIn (now (t .entry)) .names)) × (countOf r < 0x10000000000) ⌝ }
 {
-    let used = t[4] as usize;
+    let used = number_at(t, NAMES_USED);
     let mut total: usize = 0;
     let mut i: usize = 0;
     while i < used {
@@ -251,10 +252,10 @@ fn measure_names(t: &[u32], n: usize) -> Answer
 }
 
 fn measure_extras(t: &[u32], n: usize) -> Answer
-    requires { ⌜ (length (now t) ≡ 490) × (getD (now t) 5 0 ≤ 32) ⌝ }
+    requires { ⌜ Lent (now t) × (extrasUsed (now t) ≤ extraRegion .size) ⌝ }
     ensures { λ r. ⌜ (r ≡ measuredEach (extraViews n) extraSize (usedIn (now (t .entry)) .extras)) × (countOf r < 0x10000000000) ⌝ }
 {
-    let used = t[5] as usize;
+    let used = number_at(t, EXTRAS_USED);
     let mut total: usize = 0;
     let mut i: usize = 0;
     while i < used {
@@ -272,10 +273,10 @@ fn measure_extras(t: &[u32], n: usize) -> Answer
 
 // The type id and the two counts before the profiles.
 fn measure_front(t: &[u32], n: usize) -> Answer
-    requires { ⌜ length (now t) ≡ 490 ⌝ }
+    requires { ⌜ Lent (now t) ⌝ }
     ensures { λ r. ⌜ (r ≡ told (viewCheck n 0 (usedIn (now (t .entry)) .typeId)) (8 + usedIn (now (t .entry)) .typeId .len)) × (countOf r < 0x10000000000) ⌝ }
 {
-    let v = view_at(t, 0);
+    let v = view_at(t, TYPE_ID);
     let found = check_view(v, n, PLACE_TYPE_ID);
     if let Check::Refuse(r) = found {
         return Answer::Refused(r);
@@ -299,7 +300,7 @@ fn add(first: Answer, second: Answer) -> Answer
 
 // 9, or the image's length: the sum of its fields, table by table.
 fn measure(t: &[u32], n: usize) -> Answer
-    requires { ⌜ (length (now t) ≡ 490) × (countsCheck (tablesFrom (now t)) ≡ Pass) ⌝ }
+    requires { ⌜ Lent (now t) × (countsCheck (tablesFrom (now t)) ≡ Pass) ⌝ }
     ensures { λ r. ⌜ r ≡ told (viewsCheck n (usedIn (now (t .entry)))) (sizeOf (usedIn (now (t .entry)))) ⌝ }
 {
     let front = measure_front(t, n);
@@ -314,7 +315,7 @@ fn measure(t: &[u32], n: usize) -> Answer
 
 // The image's length over a source of n octets; or 6, 8, 9 or 10.
 pub fn length_over(t: &[u32], n: usize) -> Answer
-    requires { ⌜ length (now t) ≡ 490 ⌝ }
+    requires { ⌜ Lent (now t) ⌝ }
     ensures { λ r. ⌜ r ≡ told (measureCheck (tablesFrom (now (t .entry))) n) (sizeOf (usedOf (tablesFrom (now (t .entry))))) ⌝ }
 {
     if MOST < n {
@@ -338,7 +339,7 @@ pub fn length_over(t: &[u32], n: usize) -> Answer
 
 // The image's length over src.
 pub fn length_from(t: &[u32], src: &[u8]) -> Answer
-    requires { ⌜ length (now t) ≡ 490 ⌝ }
+    requires { ⌜ Lent (now t) ⌝ }
     ensures { λ r. ⌜ r ≡ measured (tablesFrom (now (t .entry))) (now (src .entry)) ⌝ }
 {
     length_over(t, src.len())
@@ -356,7 +357,7 @@ fn check_short(size: usize) -> Check
 
 // The octets of `count` taps from `first` on.
 fn taps_size(t: &[u32], first: usize, count: usize) -> usize
-    requires { ⌜ (length (now t) ≡ 490) × (getD (now t) 3 0 ≤ 36) × (first + count ≤ getD (now t) 3 0) ⌝ }
+    requires { ⌜ Lent (now t) × (tapsUsed (now t) ≤ tapRegion .size) × (first + count ≤ tapsUsed (now t)) ⌝ }
     ensures { λ r. ⌜ (r ≡ sum tapSize (part (usedIn (now (t .entry)) .taps) first count)) × (r < 0x10000000000) ⌝ }
 {
     let mut total: usize = 0;
@@ -372,7 +373,7 @@ fn taps_size(t: &[u32], first: usize, count: usize) -> usize
 
 // 2 for each of `count` extras from `first` on.
 fn check_extras(t: &[u32], first: usize, count: usize) -> Check
-    requires { ⌜ (length (now t) ≡ 490) × (getD (now t) 5 0 ≤ 32) × (first + count ≤ getD (now t) 5 0) ⌝ }
+    requires { ⌜ Lent (now t) × (extrasUsed (now t) ≤ extraRegion .size) × (first + count ≤ extrasUsed (now t)) ⌝ }
     ensures { λ r. ⌜ r ≡ each extraShort (part (usedIn (now (t .entry)) .extras) first count) ⌝ }
 {
     let mut i: usize = 0;
@@ -405,10 +406,10 @@ fn check_profile(t: &[u32], i: usize, tap: usize, extra: usize) -> Check
 
 // 2, profile by profile.
 pub fn check_sizes(t: &[u32]) -> Check
-    requires { ⌜ (length (now t) ≡ 490) × (countsCheck (tablesFrom (now t)) ≡ Pass) ⌝ }
+    requires { ⌜ Lent (now t) × (countsCheck (tablesFrom (now t)) ≡ Pass) ⌝ }
     ensures { λ r. ⌜ r ≡ each ownShort (ownedOf (usedOf (tablesFrom (now (t .entry))))) ⌝ }
 {
-    let used = t[2] as usize;
+    let used = number_at(t, PROFILES_USED);
     let mut tap: usize = 0;
     let mut extra: usize = 0;
     let mut i: usize = 0;

@@ -1,6 +1,5 @@
 // The profiles of a reference's image, from a lent table. A writer stores at `at` and answers the position after what it stored; a header is
 // stored after what it stands before: by then its length is known, and no size is summed twice.
-ghost use mathlib.Core.Path.{_≡_};
 ghost use mathlib.Core.List.{map};
 ghost use Prim.Native.Nat.{_+_, _≤_};
 ghost use lib.ListN.{length};
@@ -10,6 +9,7 @@ ghost use Rattle.reference.specs.Layout.{tagged, tag-binder, tag-service, layou
 ghost use Rattle.reference.specs.Contents.{tapOf, nameOf, extraOf};
 ghost use Rattle.reference.specs.Meaning.{sum};
 ghost use Rattle.reference.specs.Writer.{tapSize, nameSize, extraSize, binderSize, serviceSize, ownSize};
+ghost use Rattle.table.specs.Flat.{tapRegion, nameRegion, extraRegion, Lent};
 ghost use Rattle.image.specs.Sound.{Within, TapSound, NameSound, ExtraSound};
 ghost use Rattle.profiles.specs.Own.{tapsOn, namesOn, extrasOn, biopOn, liteOn, opaqueOn, serviceOn, dataSize, BinderSound, ServiceSound, OwnSound, PutAll, PutData, PutOwn};
 use entries::extra_at;
@@ -43,7 +43,7 @@ pub fn write_taps(
     out: &mut [u8],
     at: usize,
 ) -> usize
-    requires { ⌜ (length (now t) ≡ 490) × (first + count ≤ 36) ⌝ }
+    requires { ⌜ Lent (now t) × (first + count ≤ tapRegion .size) ⌝ }
     requires { ⌜ Each (TapSound (length (now src))) (tapsOn (now t) first count) ⌝ }
     requires { ⌜ at + sum tapSize (tapsOn (now t) first count) ≤ length (now out) ⌝ }
     ensures { λ r. ⌜ PutAll (tapOf (now (src .entry))) layoutTap tapSize (now (out .entry)) at (tapsOn (now (t .entry)) first count) (now (out .exit)) r ⌝ }
@@ -67,7 +67,7 @@ pub fn write_names(
     out: &mut [u8],
     at: usize,
 ) -> usize
-    requires { ⌜ (length (now t) ≡ 490) × (first + count ≤ 32) ⌝ }
+    requires { ⌜ Lent (now t) × (first + count ≤ nameRegion .size) ⌝ }
     requires { ⌜ Each (NameSound (length (now src))) (namesOn (now t) first count) ⌝ }
     requires { ⌜ at + sum nameSize (namesOn (now t) first count) ≤ length (now out) ⌝ }
     ensures { λ r. ⌜ PutAll (nameOf (now (src .entry))) layoutName nameSize (now (out .entry)) at (namesOn (now (t .entry)) first count) (now (out .exit)) r ⌝ }
@@ -91,7 +91,7 @@ pub fn write_extras(
     out: &mut [u8],
     at: usize,
 ) -> usize
-    requires { ⌜ (length (now t) ≡ 490) × (first + count ≤ 32) ⌝ }
+    requires { ⌜ Lent (now t) × (first + count ≤ extraRegion .size) ⌝ }
     requires { ⌜ Each (ExtraSound (length (now src))) (extrasOn (now t) first count) ⌝ }
     requires { ⌜ at + sum extraSize (extrasOn (now t) first count) ≤ length (now out) ⌝ }
     ensures { λ r. ⌜ PutAll (extraOf (now (src .entry))) layoutExtra extraSize (now (out .entry)) at (extrasOn (now (t .entry)) first count) (now (out .exit)) r ⌝ }
@@ -116,7 +116,7 @@ fn write_binder(
     out: &mut [u8],
     at: usize,
 ) -> usize
-    requires { ⌜ (length (now t) ≡ 490) × (first + count ≤ 36) ⌝ }
+    requires { ⌜ Lent (now t) × (first + count ≤ tapRegion .size) ⌝ }
     requires { ⌜ BinderSound (length (now src)) (tapsOn (now t) first count) ⌝ }
     requires { ⌜ at + (5 + binderSize (tapsOn (now t) first count)) ≤ length (now out) ⌝ }
     ensures { λ r. ⌜ Put (now (out .entry)) at (5 + binderSize (tapsOn (now (t .entry)) first count)) (tagged 1 tag-binder (layoutBinder (map (tapOf (now (src .entry))) (tapsOn (now (t .entry)) first count)))) (now (out .exit)) r ⌝ }
@@ -140,7 +140,7 @@ fn write_biop_data(
     out: &mut [u8],
     at: usize,
 ) -> usize
-    requires { ⌜ (length (now t) ≡ 490) × (tap + taps ≤ 36) × (extra + extras ≤ 32) ⌝ }
+    requires { ⌜ Lent (now t) × (tap + taps ≤ tapRegion .size) × (extra + extras ≤ extraRegion .size) ⌝ }
     requires { ⌜ OwnSound (length (now src)) (biopOn (now t) location tap taps extra extras) ⌝ }
     requires { ⌜ at + dataSize (biopOn (now t) location tap taps extra extras) ≤ length (now out) ⌝ }
     ensures { λ r. ⌜ PutData (now (out .entry)) at (now (src .entry)) (biopOn (now (t .entry)) location tap taps extra extras) (now (out .exit)) r ⌝ }
@@ -163,7 +163,7 @@ pub fn write_biop(
     out: &mut [u8],
     at: usize,
 ) -> usize
-    requires { ⌜ (length (now t) ≡ 490) × (tap + taps ≤ 36) × (extra + extras ≤ 32) ⌝ }
+    requires { ⌜ Lent (now t) × (tap + taps ≤ tapRegion .size) × (extra + extras ≤ extraRegion .size) ⌝ }
     requires { ⌜ OwnSound (length (now src)) (biopOn (now t) location tap taps extra extras) ⌝ }
     requires { ⌜ at + ownSize (biopOn (now t) location tap taps extra extras) ≤ length (now out) ⌝ }
     ensures { λ r. ⌜ PutOwn (now (out .entry)) at (now (src .entry)) (biopOn (now (t .entry)) location tap taps extra extras) (now (out .exit)) r ⌝ }
@@ -185,7 +185,7 @@ fn write_service_data(
     out: &mut [u8],
     at: usize,
 ) -> usize
-    requires { ⌜ (length (now t) ≡ 490) × (name + names ≤ 32) ⌝ }
+    requires { ⌜ Lent (now t) × (name + names ≤ nameRegion .size) ⌝ }
     requires { ⌜ ServiceSound (length (now src)) (namesOn (now t) name names) context ⌝ }
     requires { ⌜ at + serviceSize (namesOn (now t) name names) context ≤ length (now out) ⌝ }
     ensures { λ r. ⌜ Put (now (out .entry)) at (serviceSize (namesOn (now (t .entry)) name names) context) (layoutService (serviceOn (now (src .entry)) (now (t .entry)) address context name names)) (now (out .exit)) r ⌝ }
@@ -208,7 +208,7 @@ fn write_service(
     out: &mut [u8],
     at: usize,
 ) -> usize
-    requires { ⌜ (length (now t) ≡ 490) × (name + names ≤ 32) ⌝ }
+    requires { ⌜ Lent (now t) × (name + names ≤ nameRegion .size) ⌝ }
     requires { ⌜ ServiceSound (length (now src)) (namesOn (now t) name names) context ⌝ }
     requires { ⌜ serviceSize (namesOn (now t) name names) context ≤ 65535 ⌝ }
     requires { ⌜ at + (8 + serviceSize (namesOn (now t) name names) context) ≤ length (now out) ⌝ }
@@ -233,7 +233,7 @@ fn write_lite_data(
     out: &mut [u8],
     at: usize,
 ) -> usize
-    requires { ⌜ (length (now t) ≡ 490) × (name + names ≤ 32) × (extra + extras ≤ 32) ⌝ }
+    requires { ⌜ Lent (now t) × (name + names ≤ nameRegion .size) × (extra + extras ≤ extraRegion .size) ⌝ }
     requires { ⌜ OwnSound (length (now src)) (liteOn (now t) address context name names extra extras) ⌝ }
     requires { ⌜ at + dataSize (liteOn (now t) address context name names extra extras) ≤ length (now out) ⌝ }
     ensures { λ r. ⌜ PutData (now (out .entry)) at (now (src .entry)) (liteOn (now (t .entry)) address context name names extra extras) (now (out .exit)) r ⌝ }
@@ -256,7 +256,7 @@ pub fn write_lite(
     out: &mut [u8],
     at: usize,
 ) -> usize
-    requires { ⌜ (length (now t) ≡ 490) × (name + names ≤ 32) × (extra + extras ≤ 32) ⌝ }
+    requires { ⌜ Lent (now t) × (name + names ≤ nameRegion .size) × (extra + extras ≤ extraRegion .size) ⌝ }
     requires { ⌜ OwnSound (length (now src)) (liteOn (now t) address context name names extra extras) ⌝ }
     requires { ⌜ at + ownSize (liteOn (now t) address context name names extra extras) ≤ length (now out) ⌝ }
     ensures { λ r. ⌜ PutOwn (now (out .entry)) at (now (src .entry)) (liteOn (now (t .entry)) address context name names extra extras) (now (out .exit)) r ⌝ }

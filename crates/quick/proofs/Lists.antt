@@ -7,7 +7,7 @@ use native.Mathlib.Nat.{le-refl}
 use native.Mathlib.Numerals.{add-one}
 use native.Mathlib.Omega.{arith}
 use lib.Dec.{eqb}
-use lib.ListN.{drop, getD}
+use lib.ListN.{drop}
 use borrow.Author.Tests.{leb-true, le-leb, eqb-true, eqb-false}
 use Rattle.reference.specs.declared.View.{View}
 use Rattle.reference.specs.declared.Check.{Check}
@@ -16,14 +16,13 @@ use Rattle.reference.specs.Checks.{each}
 use Rattle.reference.specs.Meaning.{sum}
 use Rattle.reference.specs.Writer.{tapSize, nameSize, extraSize, viewCheck, tapViews, nameViews, extraViews}
 use Rattle.reference.proofs.Checks.{passes, passed, test-le, le-test, each-cons, each-drop}
-use Rattle.table.specs.Flat.{viewFrom, tapOfTable, nameOfTable, extraOfTable}
-use Rattle.entries.proofs.Numbers.{view-first, view-in}
+use Rattle.table.specs.Flat.{viewFrom, tapOfTable, nameOfTable, extraOfTable, tapRegion, nameRegion, extraRegion, tapsUsed, namesUsed, extrasUsed, viewAt}
 use Rattle.exact.proofs.Every.{all-every, every-at}
 use Rattle.measuring.specs.ByTable.{usedIn}
 use Rattle.measuring.proofs.Going.{Summing, Checking, sum-begin, sum-turn, sum-end, check-begin, check-turn, check-end}
 use Rattle.measuring.proofs.Listed.{Listed, opens}
 use Rattle.measuring.proofs.Tables.{taps-listed, names-listed, extras-listed}
-use Rattle.quick.specs.Marks.{total, within, lengthsOf, allWithin}
+use Rattle.quick.specs.Marks.{total, within, lengthsOf, allWithin, tapView, nameView, extraView, tapsWithin, namesWithin, extrasWithin}
 use Rattle.quick.proofs.Upto.{total-fixed, total-pairs}
 
 -- ---- a list whose elements a function of the index tells
@@ -57,38 +56,41 @@ module _ (n place : ℕ) (v w : View) (same : v ≡ w) where
 
 -- ---- where the views of each table stand
 module _ (t : List ℕ) where
-  pub tap-view : (i : ℕ) → viewFrom t (89 + 5 * i) ≡ tapOfTable t i .selector
-  tap-view i = let k : 89 + 5 * i ≡ 86 + 5 * i + 3 = omega arith in ap (viewFrom t) k ∙ view-in t (86 + 5 * i) 5 3 (omega arith)
+  view-here : {i k j l : ℕ} → i ≡ k → j ≡ l → viewAt t i j ≡ viewAt t k l
+  view-here p q = λ x. viewAt t (p x) (q x)
 
-  pub extra-view : (i : ℕ) → viewFrom t (395 + 3 * i) ≡ extraOfTable t i .«data»
-  extra-view i = let k : 395 + 3 * i ≡ 394 + 3 * i + 1 = omega arith in ap (viewFrom t) k ∙ view-in t (394 + 3 * i) 3 1 (omega arith)
+  pub tap-view : (i : ℕ) → viewFrom t (tapView + tapRegion .width * i) ≡ tapOfTable t i .selector
+  tap-view i = view-here (omega arith) (omega arith)
 
-  pub id-view : (i : ℕ) → viewFrom t (266 + 2 * (2 * i)) ≡ nameOfTable t i .id
-  id-view i = let k : 266 + 2 * (2 * i) ≡ 266 + 4 * i = omega arith in ap (viewFrom t) k ∙ view-first t (266 + 4 * i) 4 (omega arith)
+  pub extra-view : (i : ℕ) → viewFrom t (extraView + extraRegion .width * i) ≡ extraOfTable t i .«data»
+  extra-view i = view-here (omega arith) (omega arith)
 
-  pub kind-view : (i : ℕ) → viewFrom t (266 + 2 * (2 * i + 1)) ≡ nameOfTable t i .kind
-  kind-view i = let k : 266 + 2 * (2 * i + 1) ≡ 266 + 4 * i + 2 = omega arith in ap (viewFrom t) k ∙ view-in t (266 + 4 * i) 4 2 (omega arith)
+  pub id-view : (i : ℕ) → viewFrom t (nameView + 2 * (2 * i)) ≡ nameOfTable t i .id
+  id-view i = view-here (omega arith) (omega arith)
+
+  pub kind-view : (i : ℕ) → viewFrom t (nameView + 2 * (2 * i + 1)) ≡ nameOfTable t i .kind
+  kind-view i = view-here (omega arith) (omega arith)
 
   -- ---- the octets of each table
-  pub taps-octets : getD t 3 0 ≤ 36 → sum tapSize (usedIn t .taps) ≡ 7 * getD t 3 0 + lengthsOf t 89 5 (getD t 3 0)
+  pub taps-octets : tapsUsed t ≤ tapRegion .size → sum tapSize (usedIn t .taps) ≡ 7 * tapsUsed t + lengthsOf t tapView (tapRegion .width) (tapsUsed t)
   taps-octets h =
       sum-total (taps-listed t h) tapSize
-      ∙ total-fixed (λ i. tapSize (tapOfTable t i)) (λ i. getD t (89 + 5 * i + 1) 0) 7 (λ i. omega (arith, ap (λ (v : View). v .len) (tap-view i))) (getD t 3 0)
+      ∙ total-fixed (λ i. tapSize (tapOfTable t i)) (λ i. viewFrom t (tapView + tapRegion .width * i) .len) 7 (λ i. omega (arith, ap (λ (v : View). v .len) (tap-view i))) (tapsUsed t)
 
-  pub extras-octets : getD t 5 0 ≤ 32 → sum extraSize (usedIn t .extras) ≡ 5 * getD t 5 0 + lengthsOf t 395 3 (getD t 5 0)
+  pub extras-octets : extrasUsed t ≤ extraRegion .size → sum extraSize (usedIn t .extras) ≡ 5 * extrasUsed t + lengthsOf t extraView (extraRegion .width) (extrasUsed t)
   extras-octets h =
       sum-total (extras-listed t h) extraSize
-      ∙ total-fixed (λ i. extraSize (extraOfTable t i)) (λ i. getD t (395 + 3 * i + 1) 0) 5 (λ i. omega (arith, ap (λ (v : View). v .len) (extra-view i))) (getD t 5 0)
+      ∙ total-fixed (λ i. extraSize (extraOfTable t i)) (λ i. viewFrom t (extraView + extraRegion .width * i) .len) 5 (λ i. omega (arith, ap (λ (v : View). v .len) (extra-view i))) (extrasUsed t)
 
-  pub names-octets : getD t 4 0 ≤ 32 → sum nameSize (usedIn t .names) ≡ 8 * getD t 4 0 + lengthsOf t 266 2 (2 * getD t 4 0)
+  pub names-octets : namesUsed t ≤ nameRegion .size → sum nameSize (usedIn t .names) ≡ 8 * namesUsed t + lengthsOf t nameView 2 (2 * namesUsed t)
   names-octets h =
       sum-total (names-listed t h) nameSize
       ∙ total-fixed (λ i. nameSize (nameOfTable t i)) (λ i. len (2 * i) + len (2 * i + 1)) 8
-      (λ i. omega (arith, ap (λ (v : View). v .len) (id-view i), ap (λ (v : View). v .len) (kind-view i))) (getD t 4 0)
-      ∙ ap (λ (x : ℕ). 8 * getD t 4 0 + x) (sym (total-pairs len (getD t 4 0)))
+      (λ i. omega (arith, ap (λ (v : View). v .len) (id-view i), ap (λ (v : View). v .len) (kind-view i))) (namesUsed t)
+      ∙ ap (λ (x : ℕ). 8 * namesUsed t + x) (sym (total-pairs len (namesUsed t)))
     where
       len : ℕ → ℕ
-      len j = getD t (266 + 2 * j + 1) 0
+      len j = viewFrom t (nameView + 2 * j) .len
 
   -- ---- the checks of each table
   module _ (n : ℕ) where
@@ -98,39 +100,39 @@ module _ (t : List ℕ) where
     all-within : (first width count : ℕ) → ((i : ℕ) → i < count → within n (viewFrom t (first + width * i)) ≡ true) → allWithin n t first width count ≡ true
     all-within first width count each = all-every (λ i. within n (viewFrom t (first + width * i))) count each
 
-    pub taps-pass : getD t 3 0 ≤ 36 → allWithin n t 89 5 (getD t 3 0) ≡ true → each (tapViews n) (usedIn t .taps) ≡ Pass
-    taps-pass h all = each-all (taps-listed t h) (tapViews n) (λ i k. check-view n 41 _ _ (tap-view i) (within-at 89 5 (getD t 3 0) all i k))
+    pub taps-pass : tapsUsed t ≤ tapRegion .size → tapsWithin n t ≡ true → each (tapViews n) (usedIn t .taps) ≡ Pass
+    taps-pass h all = each-all (taps-listed t h) (tapViews n) (λ i k. check-view n 41 _ _ (tap-view i) (within-at tapView (tapRegion .width) (tapsUsed t) all i k))
 
-    pub taps-within : getD t 3 0 ≤ 36 → each (tapViews n) (usedIn t .taps) ≡ Pass → allWithin n t 89 5 (getD t 3 0) ≡ true
-    taps-within h p = all-within 89 5 (getD t 3 0) (λ i k. view-check n 41 _ _ (tap-view i) (all-each (taps-listed t h) (tapViews n) p i k))
+    pub taps-within : tapsUsed t ≤ tapRegion .size → each (tapViews n) (usedIn t .taps) ≡ Pass → tapsWithin n t ≡ true
+    taps-within h p = all-within tapView (tapRegion .width) (tapsUsed t) (λ i k. view-check n 41 _ _ (tap-view i) (all-each (taps-listed t h) (tapViews n) p i k))
 
-    pub extras-pass : getD t 5 0 ≤ 32 → allWithin n t 395 3 (getD t 5 0) ≡ true → each (extraViews n) (usedIn t .extras) ≡ Pass
-    extras-pass h all = each-all (extras-listed t h) (extraViews n) (λ i k. check-view n 43 _ _ (extra-view i) (within-at 395 3 (getD t 5 0) all i k))
+    pub extras-pass : extrasUsed t ≤ extraRegion .size → extrasWithin n t ≡ true → each (extraViews n) (usedIn t .extras) ≡ Pass
+    extras-pass h all = each-all (extras-listed t h) (extraViews n) (λ i k. check-view n 43 _ _ (extra-view i) (within-at extraView (extraRegion .width) (extrasUsed t) all i k))
 
-    pub extras-within : getD t 5 0 ≤ 32 → each (extraViews n) (usedIn t .extras) ≡ Pass → allWithin n t 395 3 (getD t 5 0) ≡ true
-    extras-within h p = all-within 395 3 (getD t 5 0) (λ i k. view-check n 43 _ _ (extra-view i) (all-each (extras-listed t h) (extraViews n) p i k))
+    pub extras-within : extrasUsed t ≤ extraRegion .size → each (extraViews n) (usedIn t .extras) ≡ Pass → extrasWithin n t ≡ true
+    extras-within h p = all-within extraView (extraRegion .width) (extrasUsed t) (λ i k. view-check n 43 _ _ (extra-view i) (all-each (extras-listed t h) (extraViews n) p i k))
 
-    pub names-pass : getD t 4 0 ≤ 32 → allWithin n t 266 2 (2 * getD t 4 0) ≡ true → each (nameViews n) (usedIn t .names) ≡ Pass
+    pub names-pass : namesUsed t ≤ nameRegion .size → namesWithin n t ≡ true → each (nameViews n) (usedIn t .names) ≡ Pass
     names-pass h all =
         each-all (names-listed t h) (nameViews n)
-        (λ i k. passed (check-view n 42 _ _ (id-view i) (within-at 266 2 (2 * getD t 4 0) all (2 * i) (omega arith)))
-        (check-view n 42 _ _ (kind-view i) (within-at 266 2 (2 * getD t 4 0) all (2 * i + 1) (omega arith))))
+        (λ i k. passed (check-view n 42 _ _ (id-view i) (within-at nameView 2 (2 * namesUsed t) all (2 * i) (omega arith)))
+        (check-view n 42 _ _ (kind-view i) (within-at nameView 2 (2 * namesUsed t) all (2 * i + 1) (omega arith))))
 
-    pub names-within : getD t 4 0 ≤ 32 → each (nameViews n) (usedIn t .names) ≡ Pass → allWithin n t 266 2 (2 * getD t 4 0) ≡ true
-    names-within h p = all-within 266 2 (2 * getD t 4 0) one
+    pub names-within : namesUsed t ≤ nameRegion .size → each (nameViews n) (usedIn t .names) ≡ Pass → namesWithin n t ≡ true
+    names-within h p = all-within nameView 2 (2 * namesUsed t) one
       where
-        name : (i : ℕ) → i < getD t 4 0 → (viewCheck n 42 (nameOfTable t i .id) ≡ Pass) × (viewCheck n 42 (nameOfTable t i .kind) ≡ Pass)
+        name : (i : ℕ) → i < namesUsed t → (viewCheck n 42 (nameOfTable t i .id) ≡ Pass) × (viewCheck n 42 (nameOfTable t i .kind) ≡ Pass)
         name i k = passes _ _ (all-each (names-listed t h) (nameViews n) p i k)
 
-        by-half : (j : ℕ) (b : Bool) → eqb (j % 2) 0 ≡ b → j < 2 * getD t 4 0 → within n (viewFrom t (266 + 2 * j)) ≡ true
+        by-half : (j : ℕ) (b : Bool) → eqb (j % 2) 0 ≡ b → j < 2 * namesUsed t → within n (viewFrom t (nameView + 2 * j)) ≡ true
         by-half j true e k =
             let z : j % 2 ≡ 0 = eqb-true (j % 2) 0 e in
             let q : 2 * (j / 2) ≡ j = omega arith in
-            subst (λ (x : ℕ). within n (viewFrom t (266 + 2 * x)) ≡ true) q (view-check n 42 _ _ (id-view (j / 2)) (name (j / 2) (omega arith) .0))
+            subst (λ (x : ℕ). within n (viewFrom t (nameView + 2 * x)) ≡ true) q (view-check n 42 _ _ (id-view (j / 2)) (name (j / 2) (omega arith) .0))
         by-half j false e k =
             let z = eqb-false (j % 2) 0 e in
             let q : 2 * (j / 2) + 1 ≡ j = omega arith in
-            subst (λ (x : ℕ). within n (viewFrom t (266 + 2 * x)) ≡ true) q (view-check n 42 _ _ (kind-view (j / 2)) (name (j / 2) (omega arith) .1))
+            subst (λ (x : ℕ). within n (viewFrom t (nameView + 2 * x)) ≡ true) q (view-check n 42 _ _ (kind-view (j / 2)) (name (j / 2) (omega arith) .1))
 
-        one : (j : ℕ) → j < 2 * getD t 4 0 → within n (viewFrom t (266 + 2 * j)) ≡ true
+        one : (j : ℕ) → j < 2 * namesUsed t → within n (viewFrom t (nameView + 2 * j)) ≡ true
         one j k = by-half j (eqb (j % 2) 0) refl k

@@ -10,9 +10,9 @@ use Rattle.measuring.specs.ByTable.{fixedSize}
 use Rattle.quick.specs.declared.Share.{Share}
 use Rattle.quick.specs.Marks.{holds, within, Shares}
 
-pub shares : {n : ℕ} {l : List ℕ} {r : Share} (b : TaggedProfile) → bodyFrom l ≡ b → r .taps ≡ tapsIn b → r .names ≡ namesIn b → r .extras ≡ extrasIn b
-    → r .octets ≡ fixedSize b + bodyView b .len → holds (r .fields) ≡ profileExact l → holds (r .ends) ≡ within n (bodyView b)
-    → (r .taps < 0x100000000) × (r .names < 0x100000000) × (r .extras < 0x100000000) × (r .octets < 0x200000000) → Shares n l r
+pub shares : {n : ℕ} {t : List ℕ} {k : ℕ} {r : Share} (b : TaggedProfile) → bodyFrom t k ≡ b → r .taps ≡ tapsIn b → r .names ≡ namesIn b → r .extras ≡ extrasIn b
+    → r .octets ≡ fixedSize b + bodyView b .len → holds (r .fields) ≡ profileExact t k → holds (r .ends) ≡ within n (bodyView b)
+    → (r .taps < 0x100000000) × (r .names < 0x100000000) × (r .extras < 0x100000000) × (r .octets < 0x200000000) → Shares n t k r
 shares {n} b e taps names extras octets fields ends small =
     record {
       taps = taps ∙ sym (ap tapsIn e);

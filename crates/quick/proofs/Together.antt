@@ -1,5 +1,5 @@
 -- What the passes over profiles and entries find, put together: the counts agree, every mark holds, and the octets are the image's. Assumes nothing.
-use Prim.Native.Nat.{ℕ, _+_, _*_, _≤_}
+use Prim.Native.Nat.{ℕ, _+_, _≤_}
 use mathlib.Core.Path.{_≡_, sym, ap, _∙_}
 use mathlib.Core.Bool.{Bool, true, _&&_}
 use mathlib.Core.List.{List}
@@ -10,7 +10,7 @@ use lib.ListN.{getD}
 use borrow.Author.Tests.{leb-true, eqb-true, le-leb, eq-eqb}
 use Rattle.reference.specs.declared.View.{View}
 use Rattle.reference.specs.Writer.{sizeOf}
-use Rattle.table.specs.Flat.{viewFrom}
+use Rattle.table.specs.Flat.{viewFrom, profileRegion, tapRegion, nameRegion, extraRegion, profilesUsed, tapsUsed, namesUsed, extrasUsed}
 use Rattle.table.proofs.Entries.{type-id-entry}
 use Rattle.exact.proofs.Every.{and-left, and-right, and-both}
 use Rattle.measuring.specs.ByTable.{usedIn}
@@ -18,7 +18,7 @@ use Rattle.measuring.proofs.ByTable.{sizes-by-table}
 use Rattle.measuring.proofs.Tables.{Agreeing, agreed as counts-pass}
 use Rattle.quick.specs.declared.Found.{Found}
 use Rattle.quick.specs.declared.Share.{Share}
-use Rattle.quick.specs.Marks.{holds, within, allWithin, agreed, allAgreed, EntriesFound, Profiles}
+use Rattle.quick.specs.Marks.{holds, within, tapsWithin, namesWithin, extrasWithin, agreed, allAgreed, EntriesFound, Profiles}
 use Rattle.quick.proofs.Marks.{or-holds, or-more}
 use Rattle.quick.proofs.Whole.{Inside}
 
@@ -28,34 +28,23 @@ agrees used size total e = (leb-true used size (and-left (leb used size) (eqb to
 both-hold : (a b : ℕ) → holds (bitOr a b) ≡ true → (holds a ≡ true) × (holds b ≡ true)
 both-hold a b h = let x = sym (or-holds a b) ∙ h in (and-left (holds a) (holds b) x, and-right (holds a) (holds b) x)
 
--- the ends of taps, names and extras
-module _ (t : List ℕ) (n : ℕ) where
-  abbrev tapEnds : Bool
-  tapEnds = allWithin n t 89 5 (getD t 3 0)
-
-  abbrev nameEnds : Bool
-  nameEnds = allWithin n t 266 2 (2 * getD t 4 0)
-
-  abbrev extraEnds : Bool
-  extraEnds = allWithin n t 395 3 (getD t 5 0)
-
 -- of what find_profiles gives
 module _ (t : List ℕ) (n : ℕ) (p : Share) (ps : Profiles n t p) where
   abbrev taps : Bool
-  taps = agreed (getD t 3 0) 36 (p .taps)
+  taps = agreed (tapsUsed t) (tapRegion .size) (p .taps)
 
   abbrev names : Bool
-  names = agreed (getD t 4 0) 32 (p .names)
+  names = agreed (namesUsed t) (nameRegion .size) (p .names)
 
   abbrev extras : Bool
-  extras = agreed (getD t 5 0) 32 (p .extras)
+  extras = agreed (extrasUsed t) (extraRegion .size) (p .extras)
 
   -- ---- the counts
-  pub agree : getD t 2 0 ≤ 8 → allAgreed t (p .taps) (p .names) (p .extras) ≡ true → Agreeing t
+  pub agree : profilesUsed t ≤ profileRegion .size → allAgreed t (p .taps) (p .names) (p .extras) ≡ true → Agreeing t
   agree h x =
-      let (ta, sa) = agrees (getD t 3 0) 36 (p .taps) (and-left taps names (and-left (taps && names) extras x)) in
-      let (tb, sb) = agrees (getD t 4 0) 32 (p .names) (and-right taps names (and-left (taps && names) extras x)) in
-      let (tc, sc) = agrees (getD t 5 0) 32 (p .extras) (and-right (taps && names) extras x) in
+      let (ta, sa) = agrees (tapsUsed t) (tapRegion .size) (p .taps) (and-left taps names (and-left (taps && names) extras x)) in
+      let (tb, sb) = agrees (namesUsed t) (nameRegion .size) (p .names) (and-right taps names (and-left (taps && names) extras x)) in
+      let (tc, sc) = agrees (extrasUsed t) (extraRegion .size) (p .extras) (and-right (taps && names) extras x) in
       record {
         profiles = h;
         taps = ta;
@@ -94,9 +83,9 @@ module _ (t : List ℕ) (n : ℕ) (p : Share) (ps : Profiles n t p) where
             tapFields = sym (es .fields) ∙ ef;
             front = sym front ∙ first;
             profiles = sym (ps .ends) ∙ pe;
-            taps = and-left (tapEnds t n) (nameEnds t n) (and-left (tapEnds t n && nameEnds t n) (extraEnds t n) all);
-            names = and-right (tapEnds t n) (nameEnds t n) (and-left (tapEnds t n && nameEnds t n) (extraEnds t n) all);
-            extras = and-right (tapEnds t n && nameEnds t n) (extraEnds t n) all;
+            taps = and-left (tapsWithin n t) (namesWithin n t) (and-left (tapsWithin n t && namesWithin n t) (extrasWithin n t) all);
+            names = and-right (tapsWithin n t) (namesWithin n t) (and-left (tapsWithin n t && namesWithin n t) (extrasWithin n t) all);
+            extras = and-right (tapsWithin n t && namesWithin n t) (extrasWithin n t) all;
           }
 
       pub inside-back : Inside t n → holds marks ≡ true

@@ -1,36 +1,35 @@
 -- A table that is exact and whose image can be measured, told by what one pass looks at: both ways. Assumes nothing.
-use Prim.Native.Nat.{ℕ, _*_, _≤_}
+use Prim.Native.Nat.{ℕ, _≤_}
 use mathlib.Core.Path.{_≡_, refl, sym, ap, ap₂, _∙_}
 use mathlib.Core.Bool.{Bool, true, false, _&&_}
 use mathlib.Core.List.{List}
 use native.Mathlib.Nat.{min-eq-left}
 use native.Mathlib.Omega.{arith}
-use lib.ListN.{getD}
 use Rattle.reference.specs.declared.Check.{Check}
 use Rattle.reference.specs.declared.Check.the-variants.{Pass, Refuse}
 use Rattle.reference.specs.Checks.{each}
 use Rattle.reference.specs.Used.{bodyView}
 use Rattle.reference.specs.Writer.{sizeOf, entryViews, viewsCheck, measureCheck}
 use Rattle.reference.proofs.Checks.{passes, passed, test-le, le-test}
-use Rattle.table.specs.Flat.{tablesFrom, viewFrom, bodyOfTable}
+use Rattle.table.specs.Flat.{tablesFrom, viewFrom, bodyOfTable, profileRegion, tapRegion, profilesUsed, tapsUsed}
 use Rattle.exact.specs.Exact.{profilesExact, tapsExact, exact}
 use Rattle.exact.proofs.Every.{and-left, and-right, and-both, all-every, every-at}
 use Rattle.measuring.specs.ByTable.{usedIn}
 use Rattle.measuring.proofs.Tables.{Agreeing, agreeing, agreed as counts-pass, profiles-listed}
 use Rattle.measuring.proofs.ByTable.{body-views}
 use Rattle.quick.specs.declared.Quick.the-variants.{Length, Unknown}
-use Rattle.quick.specs.Marks.{within, allWithin, profilesWithin, passing, quickly, sound}
+use Rattle.quick.specs.Marks.{within, profilesWithin, tapsWithin, namesWithin, extrasWithin, passing, quickly, sound}
 use Rattle.quick.proofs.Lists.{each-all, all-each, check-view, view-check, taps-pass, taps-within, names-pass, names-within, extras-pass, extras-within}
 
 -- the fields fit and the views end within the source
 pub record Inside (t : List ℕ) (n : ℕ) : Type 0 where
-  pub profileFields : profilesExact t (getD t 2 0) ≡ true
-  pub tapFields : tapsExact t (getD t 3 0) ≡ true
+  pub profileFields : profilesExact t (profilesUsed t) ≡ true
+  pub tapFields : tapsExact t (tapsUsed t) ≡ true
   pub front : within n (viewFrom t 0) ≡ true
   pub profiles : profilesWithin n t ≡ true
-  pub taps : allWithin n t 89 5 (getD t 3 0) ≡ true
-  pub names : allWithin n t 266 2 (2 * getD t 4 0) ≡ true
-  pub extras : allWithin n t 395 3 (getD t 5 0) ≡ true
+  pub taps : tapsWithin n t ≡ true
+  pub names : namesWithin n t ≡ true
+  pub extras : extrasWithin n t ≡ true
 
 pub record Whole (t : List ℕ) (n : ℕ) : Type 0 where
   pub source : n ≤ 65535
@@ -44,20 +43,20 @@ passing-pass Pass e = refl
 passing-pass (Refuse r) e = let z : _≡_ {A = ℕ} 0 1 = cc in absurd (omega arith)
 
 -- ---- the views of the profiles
-module _ (t : List ℕ) (n : ℕ) (h : getD t 2 0 ≤ 8) where
+module _ (t : List ℕ) (n : ℕ) (h : profilesUsed t ≤ profileRegion .size) where
   profiles-pass : profilesWithin n t ≡ true → each (entryViews n) (usedIn t .profiles) ≡ Pass
   profiles-pass all =
       each-all (profiles-listed t h) (entryViews n)
-      (λ i k. sym (body-views n (bodyOfTable t i) refl) ∙ check-view n 40 _ _ refl (every-at (λ i. within n (bodyView (bodyOfTable t i))) i (getD t 2 0) k all))
+      (λ i k. sym (body-views n (bodyOfTable t i) refl) ∙ check-view n 40 _ _ refl (every-at (λ i. within n (bodyView (bodyOfTable t i))) i (profilesUsed t) k all))
 
   profiles-within : each (entryViews n) (usedIn t .profiles) ≡ Pass → profilesWithin n t ≡ true
   profiles-within p =
-      all-every (λ i. within n (bodyView (bodyOfTable t i))) (getD t 2 0)
+      all-every (λ i. within n (bodyView (bodyOfTable t i))) (profilesUsed t)
       (λ i k. view-check n 40 _ _ refl (body-views n (bodyOfTable t i) refl ∙ all-each (profiles-listed t h) (entryViews n) p i k))
 
 module _ (t : List ℕ) where
   -- ---- exactness, of used counts within the tables' sizes
-  exact-used : getD t 2 0 ≤ 8 → getD t 3 0 ≤ 36 → exact t ≡ (profilesExact t (getD t 2 0) && tapsExact t (getD t 3 0))
+  exact-used : profilesUsed t ≤ profileRegion .size → tapsUsed t ≤ tapRegion .size → exact t ≡ (profilesExact t (profilesUsed t) && tapsExact t (tapsUsed t))
   unfolding exact
   exact-used h k = ap₂ (λ (a b : ℕ). profilesExact t a && tapsExact t b) (min-eq-left h) (min-eq-left k)
 
@@ -89,8 +88,8 @@ module _ (t : List ℕ) where
           source = test-le _ _ _ source;
           counts = g;
           inside = record {
-            profileFields = and-left (profilesExact t (getD t 2 0)) (tapsExact t (getD t 3 0)) fields;
-            tapFields = and-right (profilesExact t (getD t 2 0)) (tapsExact t (getD t 3 0)) fields;
+            profileFields = and-left (profilesExact t (profilesUsed t)) (tapsExact t (tapsUsed t)) fields;
+            tapFields = and-right (profilesExact t (profilesUsed t)) (tapsExact t (tapsUsed t)) fields;
             front = view-check n 0 _ _ refl front;
             profiles = profiles-within t n (g .profiles) profiles;
             taps = taps-within t n (g .taps) taps;

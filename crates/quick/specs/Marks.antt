@@ -4,14 +4,13 @@ use mathlib.Core.Path.{_≡_}
 use mathlib.Core.Bool.{Bool, true, false, _&&_}
 use mathlib.Core.List.{List}
 use lib.Dec.{ltb, leb, eqb}
-use lib.ListN.{getD}
 use Rattle.reference.specs.declared.View.{View}
 use Rattle.reference.specs.declared.Check.{Check}
 use Rattle.reference.specs.declared.Check.the-variants.{Pass, Refuse}
 use Rattle.reference.specs.Meaning.{sum}
 use Rattle.reference.specs.Used.{tapsIn, namesIn, extrasIn, bodyView}
 use Rattle.reference.specs.Writer.{tapSize, nameSize, extraSize, counted, measureCheck}
-use Rattle.table.specs.Flat.{viewFrom, bodyFrom, bodyOfTable, tablesFrom}
+use Rattle.table.specs.Flat.{viewFrom, bodyFrom, bodyOfTable, tablesFrom, tapRegion, nameRegion, extraRegion, profilesUsed, tapsUsed, namesUsed, extrasUsed}
 use Rattle.exact.specs.Exact.{every, profileExact, profilesExact, tapsExact, exact}
 use Rattle.measuring.specs.ByTable.{fixedSize, entrySize, usedIn}
 use Rattle.quick.specs.declared.Found.{Found as Sums}
@@ -41,11 +40,29 @@ allWithin n t first width count = every (λ i. within n (viewFrom t (first + wid
 
 -- .. of all used profiles
 abbrev pub profilesWithin : ℕ → List ℕ → Bool
-profilesWithin n t = every (λ i. within n (bodyView (bodyOfTable t i))) (getD t 2 0)
+profilesWithin n t = every (λ i. within n (bodyView (bodyOfTable t i))) (profilesUsed t)
 
--- .. of all used taps, names and extras, and the octets that they stand for
+-- .. of all used taps, names and extras: where their first views stand (a name has two, one behind the other), and the octets that they stand for
+abbrev pub tapView : ℕ
+tapView = tapRegion .start + 3
+
+abbrev pub nameView : ℕ
+nameView = nameRegion .start
+
+abbrev pub extraView : ℕ
+extraView = extraRegion .start + 1
+
+abbrev pub tapsWithin : ℕ → List ℕ → Bool
+tapsWithin n t = allWithin n t tapView (tapRegion .width) (tapsUsed t)
+
+abbrev pub namesWithin : ℕ → List ℕ → Bool
+namesWithin n t = allWithin n t nameView 2 (2 * namesUsed t)
+
+abbrev pub extrasWithin : ℕ → List ℕ → Bool
+extrasWithin n t = allWithin n t extraView (extraRegion .width) (extrasUsed t)
+
 abbrev pub entriesWithin : ℕ → List ℕ → Bool
-entriesWithin n t = allWithin n t 89 5 (getD t 3 0) && allWithin n t 266 2 (2 * getD t 4 0) && allWithin n t 395 3 (getD t 5 0)
+entriesWithin n t = tapsWithin n t && namesWithin n t && extrasWithin n t
 
 abbrev pub entriesSize : List ℕ → ℕ
 entriesSize t = sum tapSize (usedIn t .taps) + (sum nameSize (usedIn t .names) + sum extraSize (usedIn t .extras))
@@ -62,19 +79,19 @@ abbrev pub ViewsFound : ℕ → List ℕ → ℕ → ℕ → ℕ → Sums → Ty
 ViewsFound n t first width count r = Finds 0x4000000000 (lengthsOf t first width count) true (allWithin n t first width count) r
 
 abbrev pub TapsFound : ℕ → List ℕ → Sums → Type 0
-TapsFound n t r = Finds 0x4000000000 (lengthsOf t 89 5 (getD t 3 0)) (tapsExact t (getD t 3 0)) (allWithin n t 89 5 (getD t 3 0)) r
+TapsFound n t r = Finds 0x4000000000 (lengthsOf t tapView (tapRegion .width) (tapsUsed t)) (tapsExact t (tapsUsed t)) (tapsWithin n t) r
 
 abbrev pub EntriesFound : ℕ → List ℕ → Sums → Type 0
-EntriesFound n t r = Finds 0xD000000000 (entriesSize t) (tapsExact t (getD t 3 0)) (entriesWithin n t) r
+EntriesFound n t r = Finds 0xD000000000 (entriesSize t) (tapsExact t (tapsUsed t)) (entriesWithin n t) r
 
--- one profile of ten numbers, over a source of n octets
-pub record Shares (n : ℕ) (l : List ℕ) (r : Share) : Type 0 where
-  pub taps : r .taps ≡ tapsIn (bodyFrom l)
-  pub names : r .names ≡ namesIn (bodyFrom l)
-  pub extras : r .extras ≡ extrasIn (bodyFrom l)
-  pub octets : r .octets ≡ fixedSize (bodyFrom l) + bodyView (bodyFrom l) .len
-  pub fields : holds (r .fields) ≡ profileExact l
-  pub ends : holds (r .ends) ≡ within n (bodyView (bodyFrom l))
+-- the profile whose numbers stand from k on, over a source of n octets
+pub record Shares (n : ℕ) (t : List ℕ) (k : ℕ) (r : Share) : Type 0 where
+  pub taps : r .taps ≡ tapsIn (bodyFrom t k)
+  pub names : r .names ≡ namesIn (bodyFrom t k)
+  pub extras : r .extras ≡ extrasIn (bodyFrom t k)
+  pub octets : r .octets ≡ fixedSize (bodyFrom t k) + bodyView (bodyFrom t k) .len
+  pub fields : holds (r .fields) ≡ profileExact t k
+  pub ends : holds (r .ends) ≡ within n (bodyView (bodyFrom t k))
   pub small : (r .taps < 0x100000000) × (r .names < 0x100000000) × (r .extras < 0x100000000) × (r .octets < 0x200000000)
 
 -- all used profiles of a table
@@ -83,7 +100,7 @@ pub record Profiles (n : ℕ) (t : List ℕ) (r : Share) : Type 0 where
   pub names : r .names ≡ counted namesIn (usedIn t .profiles)
   pub extras : r .extras ≡ counted extrasIn (usedIn t .profiles)
   pub octets : r .octets ≡ sum entrySize (usedIn t .profiles)
-  pub fields : holds (r .fields) ≡ profilesExact t (getD t 2 0)
+  pub fields : holds (r .fields) ≡ profilesExact t (profilesUsed t)
   pub ends : holds (r .ends) ≡ profilesWithin n t
   pub small : r .octets < 0x10000000000
 
@@ -92,7 +109,7 @@ abbrev pub agreed : ℕ → ℕ → ℕ → Bool
 agreed used size sums = leb used size && eqb sums used
 
 abbrev pub allAgreed : List ℕ → ℕ → ℕ → ℕ → Bool
-allAgreed t taps names extras = agreed (getD t 3 0) 36 taps && agreed (getD t 4 0) 32 names && agreed (getD t 5 0) 32 extras
+allAgreed t taps names extras = agreed (tapsUsed t) (tapRegion .size) taps && agreed (namesUsed t) (nameRegion .size) names && agreed (extrasUsed t) (extraRegion .size) extras
 
 -- a check passes
 abbrev pub passing : Check → Bool

@@ -4,11 +4,12 @@
 // A mark is a number that stays below 65536 exactly if something holds; marks or'ed together stay below exactly if all of it holds.
 ghost use mathlib.Core.Path.{_≡_};
 ghost use mathlib.Core.Logic.{_≢_};
+ghost use mathlib.Core.Bool.{_&&_};
 ghost use Prim.Native.Nat.{_+_, _*_, _≤_, _<_};
-ghost use lib.Dec.{leb, eqb};
+ghost use lib.Dec.{ltb, leb, eqb};
 ghost use lib.ListN.{length, getD};
-ghost use Rattle.octets.specs.Octets.{part};
 ghost use Rattle.reference.specs.Writer.{sizeOf};
+ghost use Rattle.table.specs.Flat.{profileRegion, tapRegion, nameRegion, extraRegion, tableSize, Lent, profilesUsed, tapsUsed, namesUsed, extrasUsed};
 ghost use Rattle.exact.specs.Exact.{locationExact, addressExact, tapExact};
 ghost use Rattle.measuring.specs.ByTable.{usedIn};
 ghost use Rattle.quick.specs.Marks.{holds, Shares, Profiles, TapsFound, ViewsFound, EntriesFound, agreed, allAgreed, quickly, sound};
@@ -25,30 +26,35 @@ use reference::NAMES;
 use reference::PROFILES;
 use reference::TAPS;
 use table::BIOP;
+use table::EXTRA_WIDTH;
+use table::EXTRAS_AT;
+use table::EXTRAS_USED;
 use table::LITE_OPTIONS;
+use table::NAMES_AT;
+use table::NAMES_USED;
 use table::OPAQUE;
+use table::PROFILE_WIDTH;
+use table::PROFILES_AT;
+use table::PROFILES_USED;
+use table::TAP_WIDTH;
+use table::TAPS_AT;
+use table::TAPS_USED;
+use table::TYPE_ID;
+use table::number_at;
 
 // Every mark below it holds.
 const BOUND: usize = 65536;
 
-// Where profiles, taps' fields, and the views of taps, names and extras begin in a table, and how far it is to the next. A name has two views.
-const PROFILES_AT: usize = 6;
+// Where the length of the type id stands in a table, and where the views of taps, names and extras begin. A name has two, one behind the other.
+const TYPE_ID_LENGTH: usize = TYPE_ID + 1;
 
-const PROFILE_WIDTH: usize = 10;
+const TAP_VIEWS_AT: usize = TAPS_AT + 3;
 
-const TAPS_AT: usize = 86;
-
-const TAP_VIEWS_AT: usize = 89;
-
-const TAP_WIDTH: usize = 5;
-
-const NAME_VIEWS_AT: usize = 266;
+const NAME_VIEWS_AT: usize = NAMES_AT;
 
 const VIEW_WIDTH: usize = 2;
 
-const EXTRA_VIEWS_AT: usize = 395;
-
-const EXTRA_WIDTH: usize = 3;
+const EXTRA_VIEWS_AT: usize = EXTRAS_AT + 1;
 
 // A length that was found, or nothing.
 pub enum Quick {
@@ -73,34 +79,61 @@ struct Share {
     ends: usize,
 }
 
-// The mark of the view at number k: it ends within a source of n octets.
-fn end_mark(t: &[u32], k: usize, n: usize) -> usize
-    requires { ⌜ (k + 2 ≤ length (now t)) × (n ≤ 65535) ⌝ }
-    ensures { λ r. ⌜ holds r ≡ leb (getD (now (t .entry)) k 0 + getD (now (t .entry)) (k + 1) 0) n ⌝ }
+// The mark of a view: it ends within a source of n octets.
+fn mark_end(at: u32, len: u32, n: usize) -> usize
+    requires { ⌜ n ≤ 65535 ⌝ }
+    ensures { λ r. ⌜ holds r ≡ leb (at + len) n ⌝ }
 {
-    t[k] as usize + t[k + 1] as usize + (MOST - n)
+    at as usize + len as usize + (MOST - n)
+}
+
+// .. whose numbers stand at i and j.
+fn end_mark(t: &[u32], i: usize, j: usize, n: usize) -> usize
+    requires { ⌜ (i < length (now t)) × (j < length (now t)) × (n ≤ 65535) ⌝ }
+    ensures { λ r. ⌜ holds r ≡ leb (getD (now (t .entry)) i 0 + getD (now (t .entry)) j 0) n ⌝ }
+{
+    mark_end(t[i], t[j], n)
+}
+
+// The marks of fields: of 16, 8 and 8 bits; of 24, 16, 16 and 16; of 16, 16 and 16.
+fn mark_location(a: u32, b: u32, c: u32) -> usize
+    ensures { λ r. ⌜ holds r ≡ (ltb a 65536 && ltb b 256 && ltb c 256) ⌝ }
+{
+    a as usize | b as usize * 256 | c as usize * 256
+}
+
+fn mark_address(a: u32, b: u32, c: u32, d: u32) -> usize
+    ensures { λ r. ⌜ holds r ≡ (ltb a 16777216 && ltb b 65536 && ltb c 65536 && ltb d 65536) ⌝ }
+{
+    a as usize / 256 | b as usize | c as usize | d as usize
+}
+
+fn mark_tap(a: u32, b: u32, c: u32) -> u32
+    ensures { λ r. ⌜ (holds r ≡ (ltb a 65536 && ltb b 65536 && ltb c 65536)) × (r < 0x100000000) ⌝ }
+{
+    a | b | c
 }
 
 // The marks of a profile's fields and of a tap's.
 fn location_mark(t: &[u32], at: usize) -> usize
-    requires { ⌜ at + 10 ≤ length (now t) ⌝ }
-    ensures { λ r. ⌜ holds r ≡ locationExact (part (now (t .entry)) at 10) ⌝ }
+    requires { ⌜ at + profileRegion .width ≤ length (now t) ⌝ }
+    ensures { λ r. ⌜ holds r ≡ locationExact (now (t .entry)) at ⌝ }
 {
-    t[at + 2] as usize | t[at + 3] as usize * 256 | t[at + 4] as usize * 256
+    mark_location(t[at + 2], t[at + 3], t[at + 4])
 }
 
 fn address_mark(t: &[u32], at: usize) -> usize
-    requires { ⌜ at + 10 ≤ length (now t) ⌝ }
-    ensures { λ r. ⌜ holds r ≡ addressExact (part (now (t .entry)) at 10) ⌝ }
+    requires { ⌜ at + profileRegion .width ≤ length (now t) ⌝ }
+    ensures { λ r. ⌜ holds r ≡ addressExact (now (t .entry)) at ⌝ }
 {
-    t[at + 2] as usize / 256 | t[at + 3] as usize | t[at + 4] as usize | t[at + 5] as usize
+    mark_address(t[at + 2], t[at + 3], t[at + 4], t[at + 5])
 }
 
 fn tap_mark(t: &[u32], at: usize) -> u32
-    requires { ⌜ at + 5 ≤ length (now t) ⌝ }
-    ensures { λ r. ⌜ (holds r ≡ tapExact (part (now (t .entry)) at 5)) × (r < 0x100000000) ⌝ }
+    requires { ⌜ at + tapRegion .width ≤ length (now t) ⌝ }
+    ensures { λ r. ⌜ (holds r ≡ tapExact (now (t .entry)) at) × (r < 0x100000000) ⌝ }
 {
-    t[at] | t[at + 1] | t[at + 2]
+    mark_tap(t[at], t[at + 1], t[at + 2])
 }
 
 // .. and of a sort that is neither BIOP nor LiteOptions: it is opaque.
@@ -115,50 +148,50 @@ fn sort_mark(sort: u32) -> usize
 
 // What a profile that stands at number `at` shares, by its sort.
 fn biop_share(t: &[u32], at: usize, n: usize) -> Share
-    requires { ⌜ (at + 10 ≤ length (now t)) × (n ≤ 65535) × (getD (now t) at 0 ≡ 1) ⌝ }
-    ensures { λ r. ⌜ Shares n (part (now (t .entry)) at 10) r ⌝ }
+    requires { ⌜ (at + profileRegion .width ≤ length (now t)) × (n ≤ 65535) × (getD (now t) at 0 ≡ 1) ⌝ }
+    ensures { λ r. ⌜ Shares n (now (t .entry)) at r ⌝ }
 {
     Share {
-        taps: t[at + 7] as usize,
+        taps: number_at(t, at + 7),
         names: 0,
-        extras: t[at + 8] as usize,
-        octets: BIOP_FIXED + t[at + 6] as usize,
+        extras: number_at(t, at + 8),
+        octets: BIOP_FIXED + number_at(t, at + 6),
         fields: location_mark(t, at),
-        ends: end_mark(t, at + 5, n),
+        ends: end_mark(t, at + 5, at + 6, n),
     }
 }
 
 fn lite_share(t: &[u32], at: usize, n: usize) -> Share
-    requires { ⌜ (at + 10 ≤ length (now t)) × (n ≤ 65535) × (getD (now t) at 0 ≡ 2) ⌝ }
-    ensures { λ r. ⌜ Shares n (part (now (t .entry)) at 10) r ⌝ }
+    requires { ⌜ (at + profileRegion .width ≤ length (now t)) × (n ≤ 65535) × (getD (now t) at 0 ≡ 2) ⌝ }
+    ensures { λ r. ⌜ Shares n (now (t .entry)) at r ⌝ }
 {
     Share {
         taps: 0,
-        names: t[at + 6] as usize,
-        extras: t[at + 9] as usize,
-        octets: LITE_FIXED + t[at + 8] as usize,
+        names: number_at(t, at + 6),
+        extras: number_at(t, at + 9),
+        octets: LITE_FIXED + number_at(t, at + 8),
         fields: address_mark(t, at),
-        ends: end_mark(t, at + 7, n),
+        ends: end_mark(t, at + 7, at + 8, n),
     }
 }
 
 fn other_share(t: &[u32], at: usize, n: usize) -> Share
-    requires { ⌜ (at + 10 ≤ length (now t)) × (n ≤ 65535) × (getD (now t) at 0 ≢ 1) × (getD (now t) at 0 ≢ 2) ⌝ }
-    ensures { λ r. ⌜ Shares n (part (now (t .entry)) at 10) r ⌝ }
+    requires { ⌜ (at + profileRegion .width ≤ length (now t)) × (n ≤ 65535) × (getD (now t) at 0 ≢ 1) × (getD (now t) at 0 ≢ 2) ⌝ }
+    ensures { λ r. ⌜ Shares n (now (t .entry)) at r ⌝ }
 {
     Share {
         taps: 0,
         names: 0,
         extras: 0,
-        octets: OPAQUE_FIXED + t[at + 3] as usize,
+        octets: OPAQUE_FIXED + number_at(t, at + 3),
         fields: sort_mark(t[at]),
-        ends: end_mark(t, at + 2, n),
+        ends: end_mark(t, at + 2, at + 3, n),
     }
 }
 
 fn profile_share(t: &[u32], at: usize, n: usize) -> Share
-    requires { ⌜ (at + 10 ≤ length (now t)) × (n ≤ 65535) ⌝ }
-    ensures { λ r. ⌜ Shares n (part (now (t .entry)) at 10) r ⌝ }
+    requires { ⌜ (at + profileRegion .width ≤ length (now t)) × (n ≤ 65535) ⌝ }
+    ensures { λ r. ⌜ Shares n (now (t .entry)) at r ⌝ }
 {
     let sort = t[at];
     if sort == BIOP {
@@ -172,10 +205,10 @@ fn profile_share(t: &[u32], at: usize, n: usize) -> Share
 
 // The used profiles together.
 fn find_profiles(t: &[u32], n: usize) -> Share
-    requires { ⌜ (length (now t) ≡ 490) × (n ≤ 65535) × (getD (now t) 2 0 ≤ 8) ⌝ }
+    requires { ⌜ Lent (now t) × (n ≤ 65535) × (profilesUsed (now t) ≤ profileRegion .size) ⌝ }
     ensures { λ r. ⌜ Profiles n (now (t .entry)) r ⌝ }
 {
-    let used = t[2] as usize;
+    let used = number_at(t, PROFILES_USED);
     let mut taps: usize = 0;
     let mut names: usize = 0;
     let mut extras: usize = 0;
@@ -205,19 +238,19 @@ fn find_profiles(t: &[u32], n: usize) -> Share
 
 // The used taps. The view of a tap's selector stands behind its three fields.
 fn find_taps(t: &[u32], n: usize) -> Found
-    requires { ⌜ (length (now t) ≡ 490) × (n ≤ 65535) × (getD (now t) 3 0 ≤ 36) ⌝ }
+    requires { ⌜ Lent (now t) × (n ≤ 65535) × (tapsUsed (now t) ≤ tapRegion .size) ⌝ }
     ensures { λ r. ⌜ TapsFound n (now (t .entry)) r ⌝ }
 {
-    let used = t[3] as usize;
+    let used = number_at(t, TAPS_USED);
     let mut octets: usize = 0;
     let mut fields: u32 = 0;
     let mut ends: usize = 0;
     let mut i: usize = 0;
     while i < used {
         let at = TAP_VIEWS_AT + TAP_WIDTH * i;
-        octets += t[at + 1] as usize;
+        octets += number_at(t, at + 1);
         fields = fields | tap_mark(t, TAPS_AT + TAP_WIDTH * i);
-        ends = ends | end_mark(t, at, n);
+        ends = ends | end_mark(t, at, at + 1, n);
         i += 1;
     }
     Found {
@@ -229,7 +262,7 @@ fn find_taps(t: &[u32], n: usize) -> Found
 
 // The views that stand at first, first + width, ..
 fn find_views(t: &[u32], first: usize, width: usize, count: usize, n: usize) -> Found
-    requires { ⌜ (length (now t) ≡ 490) × (n ≤ 65535) × (count ≤ 64) × (first + width * count + 2 ≤ 490 + width) ⌝ }
+    requires { ⌜ Lent (now t) × (n ≤ 65535) × (count ≤ 64) × (first + width * count + 2 ≤ tableSize + width) ⌝ }
     ensures { λ r. ⌜ ViewsFound n (now (t .entry)) first width count r ⌝ }
 {
     let mut octets: usize = 0;
@@ -237,8 +270,8 @@ fn find_views(t: &[u32], first: usize, width: usize, count: usize, n: usize) -> 
     let mut i: usize = 0;
     while i < count {
         let at = first + width * i;
-        octets += t[at + 1] as usize;
-        ends = ends | end_mark(t, at, n);
+        octets += number_at(t, at + 1);
+        ends = ends | end_mark(t, at, at + 1, n);
         i += 1;
     }
     Found {
@@ -259,29 +292,29 @@ fn is_agreed(used: usize, size: usize, total: usize) -> bool
 }
 
 fn are_agreed(t: &[u32], taps: usize, names: usize, extras: usize) -> bool
-    requires { ⌜ length (now t) ≡ 490 ⌝ }
+    requires { ⌜ Lent (now t) ⌝ }
     ensures { λ r. ⌜ r ≡ allAgreed (now (t .entry)) taps names extras ⌝ }
 {
-    if !is_agreed(t[3] as usize, TAPS, taps) {
+    if !is_agreed(t[TAPS_USED] as usize, TAPS, taps) {
         return false;
     }
-    if !is_agreed(t[4] as usize, NAMES, names) {
+    if !is_agreed(t[NAMES_USED] as usize, NAMES, names) {
         return false;
     }
-    is_agreed(t[5] as usize, EXTRAS, extras)
+    is_agreed(t[EXTRAS_USED] as usize, EXTRAS, extras)
 }
 
 // The used taps, names and extras together, with their fixed fields.
 fn find_entries(t: &[u32], n: usize) -> Found
-    requires { ⌜ (length (now t) ≡ 490) × (n ≤ 65535) × (getD (now t) 3 0 ≤ 36) × (getD (now t) 4 0 ≤ 32) × (getD (now t) 5 0 ≤ 32) ⌝ }
+    requires { ⌜ Lent (now t) × (n ≤ 65535) × (tapsUsed (now t) ≤ tapRegion .size) × (namesUsed (now t) ≤ nameRegion .size) × (extrasUsed (now t) ≤ extraRegion .size) ⌝ }
     ensures { λ r. ⌜ EntriesFound n (now (t .entry)) r ⌝ }
 {
     let taps = find_taps(t, n);
-    let names = find_views(t, NAME_VIEWS_AT, VIEW_WIDTH, 2 * t[4] as usize, n);
-    let extras = find_views(t, EXTRA_VIEWS_AT, EXTRA_WIDTH, t[5] as usize, n);
-    let fixed = TAP_FIXED * t[3] as usize
-        + NAME_FIXED * t[4] as usize
-        + EXTRA_FIXED * t[5] as usize;
+    let names = find_views(t, NAME_VIEWS_AT, VIEW_WIDTH, 2 * t[NAMES_USED] as usize, n);
+    let extras = find_views(t, EXTRA_VIEWS_AT, EXTRA_WIDTH, t[EXTRAS_USED] as usize, n);
+    let fixed = TAP_FIXED * t[TAPS_USED] as usize
+        + NAME_FIXED * t[NAMES_USED] as usize
+        + EXTRA_FIXED * t[EXTRAS_USED] as usize;
     Found {
         octets: fixed + taps.octets + names.octets + extras.octets,
         fields: taps.fields,
@@ -291,13 +324,13 @@ fn find_entries(t: &[u32], n: usize) -> Found
 
 // The length of the image over a source of n octets; found exactly if the table is exact and measuring passes.
 pub fn quick_length(t: &[u32], n: usize) -> Quick
-    requires { ⌜ length (now t) ≡ 490 ⌝ }
+    requires { ⌜ Lent (now t) ⌝ }
     ensures { λ r. ⌜ r ≡ quickly (sound (now (t .entry)) n) (sizeOf (usedIn (now (t .entry)))) ⌝ }
 {
     if MOST < n {
         return Quick::Unknown;
     }
-    if PROFILES < t[2] as usize {
+    if PROFILES < number_at(t, PROFILES_USED) {
         return Quick::Unknown;
     }
     let profiles = find_profiles(t, n);
@@ -305,8 +338,8 @@ pub fn quick_length(t: &[u32], n: usize) -> Quick
         return Quick::Unknown;
     }
     let entries = find_entries(t, n);
-    let ends = end_mark(t, 0, n) | profiles.ends | entries.ends;
-    let total = FRONT_FIXED + t[1] as usize + profiles.octets + entries.octets;
+    let ends = end_mark(t, TYPE_ID, TYPE_ID_LENGTH, n) | profiles.ends | entries.ends;
+    let total = FRONT_FIXED + t[TYPE_ID_LENGTH] as usize + profiles.octets + entries.octets;
     if (profiles.fields | entries.fields | ends) < BOUND {
         if total <= MOST {
             return Quick::Length(total);

@@ -12,7 +12,7 @@ use Rattle.reference.specs.Placed.{view}
 use Rattle.reference.proofs.Steps.{seen-ok, seen-no}
 use Rattle.table.specs.declared.Counts.{Counts}
 use Rattle.table.specs.Region.{stored}
-use Rattle.table.specs.Flat.{profileRegion}
+use Rattle.table.specs.Flat.{profileRegion, Lent}
 use Rattle.table.specs.Filed.{profileFiled, countsAfter}
 use Rattle.table.proofs.Filed.{filed-opaque}
 use Rattle.components.specs.declared.BodyRead.{BodyRead}
@@ -24,7 +24,7 @@ pub stores-same : {at : ℕ} {t : List ℕ} {i : ℕ} {u : Counts} {x y : Answer
 stores-same {at} {t} {i} {u} h q = record { told = h .told ∙ ap (bodyKept at t i u) (sym q) }
 
 -- an opaque profile, stored where there is room
-pub stores-opaque : (at : ℕ) (t : List ℕ) (i : ℕ) (u : Counts) (tag : ℕ) (s : List ℕ) {e : List ℕ} → length t ≡ 490
+pub stores-opaque : (at : ℕ) (t : List ℕ) (i : ℕ) (u : Counts) (tag : ℕ) (s : List ℕ) {e : List ℕ} → Lent t
     → e ≡ stored profileRegion t i (Sort.Opaque tag (view (at + 8) s) ∷ []) → StoresBody at t i u (ok (opaque tag s) (length s)) (length s) e (Bodies.Got u)
 stores-opaque at t i u tag s {e} l p =
     let q = p ∙ filed-opaque t i u (Sort.Opaque tag (view (at + 8) s) ∷ []) l in

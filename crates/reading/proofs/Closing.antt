@@ -19,13 +19,14 @@ use Rattle.reference.specs.Heads.{Head}
 use Rattle.reference.specs.Placed.{view, profilesAt}
 use Rattle.reference.proofs.Steps.{seen-ok, seen-no}
 use Rattle.table.specs.declared.Counts.{Counts}
-use Rattle.table.specs.Flat.{frontNumbers}
+use Rattle.table.specs.Flat.{frontNumbers, tableSize}
 use Rattle.table.specs.Filed.{profilesFiled, noCounts, referenceFiled}
 use Rattle.components.specs.Told.{Filled}
 use Rattle.reading.specs.declared.ProfilesRead.{ProfilesRead}
 use Rattle.reading.specs.declared.ProfilesRead.the-variants as Ways
 use Rattle.reading.specs.Open.{opening, endCheck, unless, readAs}
-use Rattle.reading.specs.Into.{profilesTold, allFilled, StoresProfiles, openTold, Closes, StoresReference, tableLeft, ReadInto}
+use Rattle.reading.specs.Stored.{profilesTold, allFilled, StoresProfiles, openTold, Closes, StoresReference}
+use Rattle.reading.specs.Into.{tableLeft, ReadInto}
 use Rattle.reading.proofs.References.{endOf, reading-unopened, reading-unread, reading-checked, many-length, opening-next}
 
 -- ---- what a caller knows of stored profiles
@@ -79,7 +80,7 @@ module _ {x : Answer Reference} {t e : List ℕ} {r : Told} (h : StoresReference
       let (m, p, f) = seen-ok (referenceFiled t) x (sym (h .told) ∙ ap (openTold e) q) in
       record { answers = sym (ap (λ (y : Answer Reference). answered y .answer) p); leaves = f ∙ sym (ap (λ (y : Answer Reference). tableLeft y t) p) }
 
-  pub read-cleared : {y : Refusal} {e′ : List ℕ} → r ≡ Refused y → e′ ≡ replicate 490 0 → ReadInto x t e′ (Refused y)
+  pub read-cleared : {y : Refusal} {e′ : List ℕ} → r ≡ Refused y → e′ ≡ replicate tableSize 0 → ReadInto x t e′ (Refused y)
   read-cleared q z =
       let p = seen-no (referenceFiled t) x (sym (h .told) ∙ ap (openTold e) q) in
       record { answers = sym (ap (λ (y : Answer Reference). answered y .answer) p); leaves = z ∙ sym (ap (λ (y : Answer Reference). tableLeft y t) p) }

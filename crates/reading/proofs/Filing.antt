@@ -11,12 +11,12 @@ use Rattle.reference.specs.Layout.{layoutProfile}
 use Rattle.reference.specs.Steps.{Answer, ok, refused, followed, seen, many}
 use Rattle.reference.specs.Reader.{readProfile}
 use Rattle.table.specs.declared.Counts.{Counts}
-use Rattle.table.specs.Flat.{profileRegion, tapRegion, nameRegion, extraRegion}
+use Rattle.table.specs.Flat.{profileRegion, tapRegion, nameRegion, extraRegion, Lent}
 use Rattle.table.specs.Filed.{filed, countsAfter, profileFiled, profilesFiled, noCounts}
 use Rattle.table.proofs.Stored.{stored-none}
 use Rattle.table.proofs.Filed.{profiles-more, filed-length}
 use Rattle.components.specs.Told.{Filled}
-use Rattle.reading.specs.Into.{allFilled}
+use Rattle.reading.specs.Stored.{allFilled}
 use Rattle.reading.proofs.Crowd.{taps-below, names-below, extras-below}
 
 filed-none : (t : List ℕ) (i : ℕ) (u : Counts) → filed t i u [] [] [] [] ≡ t
@@ -34,7 +34,7 @@ behind-none : (at : ℕ) (t : List ℕ) (i : ℕ) (u : Counts) → behindOf at t
 behind-none at t i u =
     λ j. record { table = filed-none t i u j; counts = record { taps = add-zero (u .taps) j; names = add-zero (u .names) j; extras = add-zero (u .extras) j } }
 
-behind-more : (at : ℕ) (t : List ℕ) (i : ℕ) (u : Counts) (p : Profile) (l : List Profile) {next : ℕ} → next ≡ at + length (layoutProfile p) → length t ≡ 490
+behind-more : (at : ℕ) (t : List ℕ) (i : ℕ) (u : Counts) (p : Profile) (l : List Profile) {next : ℕ} → next ≡ at + length (layoutProfile p) → Lent t
     → behindOf at t i u (p ∷ l) ≡ behindOf next (profileFiled at t i u p) (i + 1) (countsAfter u p) l
 behind-more at t i u p l {next} s h =
     let e = profiles-more at t i u p l h ∙ ap (λ (k : ℕ). profilesFiled k (profileFiled at t i u p) (i + 1) (countsAfter u p) l) (sym s) in
@@ -68,7 +68,7 @@ module _ (d : List ℕ) (end : ℕ) where
   leaves-not n pos t i u e =
       ap (λ (y : Answer Profile). seen (behindOf pos t i u) (followed y (λ a next. followed (many n readProfile d next end) (λ l last. ok (a ∷ l) last)))) e
 
-  leaves-more : (n pos : ℕ) (t : List ℕ) (i : ℕ) (u : Counts) {p : Profile} {next : ℕ} → readProfile d pos end ≡ ok p next → next ≡ pos + length (layoutProfile p) → length t ≡ 490
+  leaves-more : (n pos : ℕ) (t : List ℕ) (i : ℕ) (u : Counts) {p : Profile} {next : ℕ} → readProfile d pos end ≡ ok p next → next ≡ pos + length (layoutProfile p) → Lent t
       → leaves (suc n) pos t i u ≡ leaves n next (profileFiled pos t i u p) (i + 1) (countsAfter u p)
   unfolding many
   leaves-more n pos t i u {p} {next} e s h =
@@ -93,14 +93,14 @@ asked-leaves d end n pos t = seen-same (many n readProfile d pos end) _ _ (λ l.
 -- after i turns of n: the table, the counts, which stay below the position, and where the next profile stands
 pub record Files (d : List ℕ) (end n pos : ℕ) (t₀ t : List ℕ) (u : Counts) (cur i : ℕ) : Type 0 where
   pub most : i ≤ n
-  pub long : length t ≡ 490
+  pub long : Lent t
   pub taps : u .taps ≤ cur
   pub names : u .names ≤ cur
   pub extras : u .extras ≤ cur
   pub same : asked d end n pos t₀ ≡ leaves d end (n - i) cur t i u
 
 module _ {d : List ℕ} {end n pos : ℕ} {t₀ : List ℕ} where
-  pub begin : length t₀ ≡ 490 → Files d end n pos t₀ t₀ noCounts pos 0
+  pub begin : Lent t₀ → Files d end n pos t₀ t₀ noCounts pos 0
   begin h =
       record {
         most = omega arith;

@@ -24,7 +24,7 @@ use Rattle.reference.proofs.Accept.{only-accepted, only-whole, whole-leads}
 use Rattle.reference.proofs.Fitting.{used-tabled, sums}
 use Rattle.reference.proofs.Promised.{counts, refuses}
 use Rattle.reference.proofs.Same.{same-saying, used-agrees, used-shows, used-given-back}
-use Rattle.table.specs.Flat.{tablesFrom}
+use Rattle.table.specs.Flat.{tablesFrom, Lent, tableSize}
 use Rattle.table.specs.Filed.{referenceFiled}
 use Rattle.table.proofs.Lent.{read-files, read-length}
 use Rattle.by_value.proofs.Accepted as accepted
@@ -34,7 +34,7 @@ use Rattle.reading.specs.Lent.{ShowsInto}
 
 -- ---- the table
 
-module _ (t : List ℕ) (l : length t ≡ 490) (m : Reference) (w : WellFormed m) (room : Room m) where
+module _ (t : List ℕ) (l : Lent t) (m : Reference) (w : WellFormed m) (room : Room m) where
   pub lent-shows : usedOf (tablesFrom (referenceFiled t m)) ≡ tablesOf m
   lent-shows = accepted.lent-shows t l m w room
 
@@ -72,13 +72,13 @@ module _ (x : Answer Reference) (t e : List ℕ) (r : Told) (h : ReadInto x t e 
   pub into-accepts : (m : Reference) (n : ℕ) → x ≡ ok m n → (r ≡ Count n) × (e ≡ referenceFiled t m)
   into-accepts m n q = (h .answers ∙ ap (λ (y : Answer Reference). answered y .answer) q, h .leaves ∙ ap (λ (y : Answer Reference). tableLeft y t) q)
 
-  pub into-refused : (y : Refusal) → r ≡ Refused y → (e ≡ replicate 490 0) × (tablesFrom e ≡ noTables)
+  pub into-refused : (y : Refusal) → r ≡ Refused y → (e ≡ replicate tableSize 0) × (tablesFrom e ≡ noTables)
   into-refused y c =
       let z = h .leaves ∙ ap (λ (v : Answer Reference). tableLeft v t) (refuses x y (sym (h .answers) ∙ c)) in
       (z, ap tablesFrom z ∙ tables-cleared)
 
   -- accepted with n octets and the used entries u exactly when the reader answers so
-  pub into-exactly : length t ≡ 490 → ((m : Reference) (n : ℕ) → x ≡ ok m n → (WellFormed m) × (Room m)) → (n : ℕ) (u : Used)
+  pub into-exactly : Lent t → ((m : Reference) (n : ℕ) → x ≡ ok m n → (WellFormed m) × (Room m)) → (n : ℕ) (u : Used)
       → ((r ≡ Count n) × (usedOf (tablesFrom e) ≡ u)) ↔ ((m : Reference) × (x ≡ ok m n) × (u ≡ tablesOf m))
   into-exactly l good n u = (
     λ c. let (m, q, p) = into-accepted n (c .0) in (m, q, sym (c .1) ∙ told m q p),
@@ -99,7 +99,7 @@ pub record Taken (s t e : List ℕ) (n : ℕ) : Type 0 where
   pub shows : ShowsInto s meaning t e
   pub back : (d : List ℕ) → n ≤ length d → (written (tablesFrom e) s d ≡ Count n) × (GivesBack s meaning n d (leaves (tablesFrom e) s d))
 
-taken : (s : List ℕ) → Octets s → (t e : List ℕ) → length t ≡ 490 → (m : Reference) (n : ℕ) → e ≡ referenceFiled t m → length s ≤ 65535 → Leads s m n → Taken s t e n
+taken : (s : List ℕ) → Octets s → (t e : List ℕ) → Lent t → (m : Reference) (n : ℕ) → e ≡ referenceFiled t m → length s ≤ 65535 → Leads s m n → Taken s t e n
 taken s o t e l m n p small h =
     let f = referenceFiled t m in
     let same = lent-same t l m (h .formed) (h .room) in
@@ -115,7 +115,7 @@ taken s o t e l m n p small h =
           (used-given-back m (tablesFrom f) same s n h o small d room);
     }
 
-module _ (s : List ℕ) (o : Octets s) (t e : List ℕ) (lent : length t ≡ 490) (r : Told) (n : ℕ) (c : r ≡ Count n) where
+module _ (s : List ℕ) (o : Octets s) (t e : List ℕ) (lent : Lent t) (r : Told) (n : ℕ) (c : r ≡ Count n) where
   pub leading-taken : ReadInto (readLeading s) t e r → Taken s t e n
   leading-taken h =
       let (m, q, p) = into-accepted (readLeading s) t e r h n c in
@@ -132,7 +132,7 @@ whole-into s o t e r n c h =
 -- ---- what is read back by value is read back into every lent table
 
 module _ (y : Answer Reference) (good : (m : Reference) (n : ℕ) → y ≡ ok m n → (WellFormed m) × (Room m)) where
-  pub lent-read-back : (x : Tables) (s : List ℕ) (n : ℕ) (d : List ℕ) → ReadsBack x s n d (answered y) → (t e : List ℕ) (r : Told) → length t ≡ 490 → ReadInto y t e r
+  pub lent-read-back : (x : Tables) (s : List ℕ) (n : ℕ) (d : List ℕ) → ReadsBack x s n d (answered y) → (t e : List ℕ) (r : Told) → Lent t → ReadInto y t e r
       → ReadsBack x s n d (record { answer = r; tables = tablesFrom e })
   lent-read-back x s n d b t e r l h =
       let c = h .answers ∙ b .answers in

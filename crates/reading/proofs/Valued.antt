@@ -12,7 +12,7 @@ use Rattle.reference.specs.Layout.{WellFormed}
 use Rattle.reference.specs.Steps.{Answer, ok, refused}
 use Rattle.reference.specs.Reader.{readLeading, readWhole, answered}
 use Rattle.reference.proofs.Accept.{only-accepted, only-whole}
-use Rattle.table.specs.Flat.{tablesFrom}
+use Rattle.table.specs.Flat.{tablesFrom, tableSize}
 use Rattle.by_value.proofs.Accepted.{tables-read}
 use Rattle.by_value.proofs.Back.{tables-cleared}
 use Rattle.reading.specs.Into.{tableLeft, ReadInto}
@@ -28,11 +28,11 @@ whole-good d o m n e = let l = only-whole d o m n e .1 in (l .formed, l .room)
 -- ---- the tables
 
 -- what an answer leaves in a table of zeros, as a struct
-left-tables : (x : Answer Reference) → ((m : Reference) (n : ℕ) → x ≡ ok m n → (WellFormed m) × (Room m)) → tablesFrom (tableLeft x (replicate 490 0)) ≡ answered x .tables
+left-tables : (x : Answer Reference) → ((m : Reference) (n : ℕ) → x ≡ ok m n → (WellFormed m) × (Room m)) → tablesFrom (tableLeft x (replicate tableSize 0)) ≡ answered x .tables
 left-tables (ok m n) good = let g = good m n refl in tables-read m (g .1) (g .0)
 left-tables (refused y) good = tables-cleared
 
-pub valued : (x : Answer Reference) → ((m : Reference) (n : ℕ) → x ≡ ok m n → (WellFormed m) × (Room m)) → {e : List ℕ} {r : Told} {t : Tables} → ReadInto x (replicate 490 0) e r → t ≡ tablesFrom e
+pub valued : (x : Answer Reference) → ((m : Reference) (n : ℕ) → x ≡ ok m n → (WellFormed m) × (Room m)) → {e : List ℕ} {r : Told} {t : Tables} → ReadInto x (replicate tableSize 0) e r → t ≡ tablesFrom e
     → _≡_ {A = Reading} (record { answer = r; tables = t }) (answered x)
 valued x good {e} {r} {t} h q =
     let p = q ∙ ap tablesFrom (h .leaves) ∙ left-tables x good in

@@ -1,58 +1,19 @@
--- What a reading leaves in a lent table, and what it answers: an accepted one files its profiles and the six numbers at the front, and keeps
--- what stands behind the entries it fills; a refused one leaves zeros. Assumes nothing.
+-- What a reading into a lent table answers and leaves: an accepted one files its profiles and the six numbers at the front, and keeps what stands behind
+-- the entries it fills; a refused one leaves zeros. Assumes nothing.
 use Prim.Native.Nat.{ℕ}
 use mathlib.Core.Path.{_≡_}
 use mathlib.Core.List.{List}
 use lib.ListN.{replicate}
 use Rattle.reference.specs.declared.Answer.{Answer as Told}
-use Rattle.reference.specs.declared.Answer.the-variants.{Count, Refused}
-use Rattle.reference.specs.declared.Check.{Check}
-use Rattle.reference.specs.Meaning.{Profile, Reference, tapsOf, namesOf, extrasOf, sum}
-use Rattle.reference.specs.Steps.{Answer, ok, refused, seen}
+use Rattle.reference.specs.Meaning.{Reference}
+use Rattle.reference.specs.Steps.{Answer, ok, refused}
 use Rattle.reference.specs.Reader.{answered}
-use Rattle.table.specs.Filed.{profilesFiled, noCounts, referenceFiled}
-use Rattle.components.specs.Told.{Filled}
-use Rattle.reading.specs.Open.{unless}
-use Rattle.reading.specs.declared.ProfilesRead.{ProfilesRead}
-use Rattle.reading.specs.declared.ProfilesRead.the-variants as Ways
-
--- ---- profiles: of a refused reading the table is open, the public reading clears it
-
-abbrev pub profilesTold : List ℕ → ProfilesRead → Answer Filled
-profilesTold e (Ways.Got u next) = ok (record { table = e; counts = u }) next
-profilesTold e (Ways.Not x) = refused x
-
--- the table t with all entries of the profiles l, the first of which stands at offset at, and how many entries of each sort they have
-abbrev pub allFilled : ℕ → List ℕ → List Profile → Filled
-allFilled at t l =
-    record {
-      table = profilesFiled at t 0 noCounts l;
-      counts = record { taps = sum tapsOf l; names = sum namesOf l; extras = sum extrasOf l };
-    }
-
--- A reading x of profiles, the first of which stands at offset at, was stored into t: that left e, and ended as v.
-pub record StoresProfiles (at : ℕ) (t : List ℕ) (x : Answer (List Profile)) (e : List ℕ) (v : ProfilesRead) : Type 0 where
-  pub told : profilesTold e v ≡ seen (allFilled at t) x
-
--- ---- behind the profiles: the check, and the table that is left if it passes
-
-abbrev pub openTold : List ℕ → Told → Answer (List ℕ)
-openTold e (Count n) = ok e n
-openTold e (Refused x) = refused x
-
-pub record Closes (c : Check) (t : List ℕ) (last : ℕ) (e : List ℕ) (r : Told) : Type 0 where
-  pub told : openTold e r ≡ unless c t last
-
--- ---- a reference, its table still open where it is refused
-
-pub record StoresReference (x : Answer Reference) (t e : List ℕ) (r : Told) : Type 0 where
-  pub told : openTold e r ≡ seen (referenceFiled t) x
-
--- ---- a reading into a lent table
+use Rattle.table.specs.Flat.{tableSize}
+use Rattle.table.specs.Filed.{referenceFiled}
 
 abbrev pub tableLeft : Answer Reference → List ℕ → List ℕ
 tableLeft (ok m n) t = referenceFiled t m
-tableLeft (refused x) t = replicate 490 0
+tableLeft (refused x) t = replicate tableSize 0
 
 -- A reading x into the table t left e and answered r.
 pub record ReadInto (x : Answer Reference) (t e : List ℕ) (r : Told) : Type 0 where

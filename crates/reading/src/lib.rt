@@ -1,4 +1,4 @@
-// Reads a leading reference, or a whole slice, into a lent table of 490 numbers and by value. Figures count from the start of the slice,
+// Reads a leading reference, or a whole slice, into a lent table and by value. Figures count from the start of the slice,
 // inside a profile from the start of its data; views always count from the start of the caller's slice.
 ghost use mathlib.Core.Path.{_≡_};
 ghost use Prim.Native.Nat.{_+_, _≤_};
@@ -7,10 +7,11 @@ ghost use Rattle.octets.specs.Octets.{splice};
 ghost use Rattle.reference.specs.Steps.{seen, many};
 ghost use Rattle.reference.specs.Reader.{readBody, readProfile, readLeading, readWhole, answered};
 ghost use Rattle.reference.specs.Heads.{readHeader};
-ghost use Rattle.table.specs.Flat.{frontNumbers};
+ghost use Rattle.table.specs.Flat.{frontNumbers, Lent};
 ghost use Rattle.components.specs.Told.{StoresBody};
 ghost use Rattle.reading.specs.Open.{headerTold, opening, headSeen, headTold, roomCheck, endCheck, readAs};
-ghost use Rattle.reading.specs.Into.{StoresProfiles, Closes, StoresReference, ReadInto};
+ghost use Rattle.reading.specs.Stored.{StoresProfiles, Closes, StoresReference};
+ghost use Rattle.reading.specs.Into.{ReadInto};
 use biop::read_biop;
 use by_value::tables_of;
 use components::BodyRead;
@@ -45,6 +46,7 @@ use reference::too_many;
 use reference::view_of;
 use reference::wrong;
 use table::Counts;
+use table::SIZE;
 use table::clear;
 use table::put_front;
 use table::put_opaque;
@@ -167,7 +169,7 @@ fn check_end(
 
 // The data of a profile whose header stands at `at`: it becomes profile i of the table, if there is room.
 fn read_body(d: &[u8], at: usize, tag: u32, table: &mut [u32], i: usize, used: Counts) -> BodyRead
-    requires { ⌜ (at + 8 + length (now d) ≤ 65535) × (used .taps ≤ 65535) × (used .names ≤ 65535) × (used .extras ≤ 65535) × (length (now table) ≡ 490) ⌝ }
+    requires { ⌜ (at + 8 + length (now d) ≤ 65535) × (used .taps ≤ 65535) × (used .names ≤ 65535) × (used .extras ≤ 65535) × (Lent (now table)) ⌝ }
     ensures { λ r. ⌜ StoresBody at (now (table .entry)) i used (readBody tag (now (d .entry)) 0 (length (now (d .entry)))) (length (now (d .entry))) (now (table .exit)) r ⌝ }
 {
     if tag == TAG_BIOP {
@@ -189,7 +191,7 @@ enum ProfilesRead {
 }
 
 fn read_profiles(d: &[u8], pos: usize, n: usize, table: &mut [u32]) -> ProfilesRead
-    requires { ⌜ (pos ≤ length (now d)) × (length (now d) ≤ 65535) × (length (now table) ≡ 490) ⌝ }
+    requires { ⌜ (pos ≤ length (now d)) × (length (now d) ≤ 65535) × (Lent (now table)) ⌝ }
     ensures { λ r. ⌜ StoresProfiles pos (now (table .entry)) (many n readProfile (now (d .entry)) pos (length (now (d .entry)))) (now (table .exit)) r ⌝ }
 {
     let mut used = Counts {
@@ -233,7 +235,7 @@ fn finish(
     used: Counts,
     table: &mut [u32],
 ) -> Answer
-    requires { ⌜ (last ≤ length (now d)) × (length (now table) ≡ 490) ⌝ }
+    requires { ⌜ (last ≤ length (now d)) × (Lent (now table)) ⌝ }
     ensures { λ r. ⌜ Closes (endCheck whole last (length (now (d .entry))) count (used .taps) (used .names) (used .extras)) (splice (now (table .entry)) 0 (frontNumbers «type_id» count (used .taps) (used .names) (used .extras))) last (now (table .exit)) r ⌝ }
 {
     let taps = used.taps;
@@ -257,7 +259,7 @@ fn finish(
 
 // The reference at the start of d; `whole`: nothing may be left over. Of a refused reading the table is open.
 fn read_reference(d: &[u8], whole: bool, table: &mut [u32]) -> Answer
-    requires { ⌜ length (now table) ≡ 490 ⌝ }
+    requires { ⌜ Lent (now table) ⌝ }
     ensures { λ r. ⌜ StoresReference (readAs whole (now (d .entry))) (now (table .entry)) (now (table .exit)) r ⌝ }
 {
     match read_head(d) {
@@ -277,7 +279,7 @@ fn read_reference(d: &[u8], whole: bool, table: &mut [u32]) -> Answer
 
 // A refused reading leaves empty tables.
 fn read_or_clear(d: &[u8], whole: bool, table: &mut [u32]) -> Answer
-    requires { ⌜ length (now table) ≡ 490 ⌝ }
+    requires { ⌜ Lent (now table) ⌝ }
     ensures { λ r. ⌜ ReadInto (readAs whole (now (d .entry))) (now (table .entry)) (now (table .exit)) r ⌝ }
 {
     match read_reference(d, whole, table) {
@@ -289,10 +291,10 @@ fn read_or_clear(d: &[u8], whole: bool, table: &mut [u32]) -> Answer
     }
 }
 
-// A leading reference into a lent table of 490 numbers: octets consumed, or the refusal. An accepted reading keeps what stands behind the
+// A leading reference into a lent table: octets consumed, or the refusal. An accepted reading keeps what stands behind the
 // entries it fills, a refused one leaves zeros.
 pub fn read_leading_into(d: &[u8], table: &mut [u32]) -> Answer
-    requires { ⌜ length (now table) ≡ 490 ⌝ }
+    requires { ⌜ Lent (now table) ⌝ }
     ensures { λ r. ⌜ ReadInto (readLeading (now (d .entry))) (now (table .entry)) (now (table .exit)) r ⌝ }
 {
     read_or_clear(d, false, table)
@@ -300,7 +302,7 @@ pub fn read_leading_into(d: &[u8], table: &mut [u32]) -> Answer
 
 // The same of a whole slice: nothing may be left over.
 pub fn read_whole_into(d: &[u8], table: &mut [u32]) -> Answer
-    requires { ⌜ length (now table) ≡ 490 ⌝ }
+    requires { ⌜ Lent (now table) ⌝ }
     ensures { λ r. ⌜ ReadInto (readWhole (now (d .entry))) (now (table .entry)) (now (table .exit)) r ⌝ }
 {
     read_or_clear(d, true, table)
@@ -310,7 +312,7 @@ pub fn read_whole_into(d: &[u8], table: &mut [u32]) -> Answer
 pub fn read_leading(d: &[u8]) -> Reading
     ensures { λ r. ⌜ r ≡ answered (readLeading (now (d .entry))) ⌝ }
 {
-    let mut table = [0u32; 490];
+    let mut table = [0u32; SIZE];
     let answer = read_leading_into(d, &mut table);
     let tables = tables_of(&table);
     Reading { answer, tables }
@@ -320,7 +322,7 @@ pub fn read_leading(d: &[u8]) -> Reading
 pub fn read_whole(d: &[u8]) -> Reading
     ensures { λ r. ⌜ r ≡ answered (readWhole (now (d .entry))) ⌝ }
 {
-    let mut table = [0u32; 490];
+    let mut table = [0u32; SIZE];
     let answer = read_whole_into(d, &mut table);
     let tables = tables_of(&table);
     Reading { answer, tables }

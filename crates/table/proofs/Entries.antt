@@ -2,56 +2,50 @@
 use Prim.Native.Nat.{ℕ, _<_}
 use mathlib.Core.Path.{_≡_, refl}
 use mathlib.Core.List.{List}
-use lib.ListN.{length, drop, getD}
-use Rattle.reference.specs.declared.Profile.{Profile}
+use lib.ListN.{length, getD}
 use Rattle.reference.specs.Tabled.{noProfile, noTap, noName, noExtra}
-use Rattle.table.specs.Flat.{viewFrom, profileFrom, tapFrom, nameFrom, extraFrom, bodyOfTable, tapOfTable, nameOfTable, extraOfTable, tablesFrom}
-use Rattle.table.proofs.Chunks.{chunks-length, entry-get}
-
--- profile k of a table
-abbrev pub profileOfTable : List ℕ → ℕ → Profile
-profileOfTable t k = record { body = bodyOfTable t k }
+use Rattle.table.specs.Flat.{viewFrom, profileRegion, tapRegion, nameRegion, extraRegion, profilesUsed, profileOfTable, tapOfTable, nameOfTable, extraOfTable, tablesFrom}
+use Rattle.table.proofs.Listed.{listed-length, listed-get}
 
 module _ (t : List ℕ) where
-  pub profiles-length : length (tablesFrom t .profiles) ≡ 8
+  pub profiles-length : length (tablesFrom t .profiles) ≡ profileRegion .size
   unfolding tablesFrom
-  profiles-length = chunks-length profileFrom 10 8 (drop 6 t)
+  profiles-length = listed-length _ (profileOfTable t)
 
-  pub taps-length : length (tablesFrom t .taps) ≡ 36
+  pub taps-length : length (tablesFrom t .taps) ≡ tapRegion .size
   unfolding tablesFrom
-  taps-length = chunks-length tapFrom 5 36 (drop 86 t)
+  taps-length = listed-length _ (tapOfTable t)
 
-  pub names-length : length (tablesFrom t .names) ≡ 32
+  pub names-length : length (tablesFrom t .names) ≡ nameRegion .size
   unfolding tablesFrom
-  names-length = chunks-length nameFrom 4 32 (drop 266 t)
+  names-length = listed-length _ (nameOfTable t)
 
-  pub extras-length : length (tablesFrom t .extras) ≡ 32
+  pub extras-length : length (tablesFrom t .extras) ≡ extraRegion .size
   unfolding tablesFrom
-  extras-length = chunks-length extraFrom 3 32 (drop 394 t)
+  extras-length = listed-length _ (extraOfTable t)
 
   module _ (k : ℕ) where
-    pub profile-entry : k < 8 → getD (tablesFrom t .profiles) k noProfile ≡ profileOfTable t k
+    pub profile-entry : k < profileRegion .size → getD (tablesFrom t .profiles) k noProfile ≡ profileOfTable t k
     unfolding tablesFrom
-    profile-entry h = entry-get profileFrom 10 6 8 t k noProfile h
+    profile-entry h = listed-get _ (profileOfTable t) k noProfile h
 
-    pub tap-entry : k < 36 → getD (tablesFrom t .taps) k noTap ≡ tapOfTable t k
+    pub tap-entry : k < tapRegion .size → getD (tablesFrom t .taps) k noTap ≡ tapOfTable t k
     unfolding tablesFrom
-    tap-entry h = entry-get tapFrom 5 86 36 t k noTap h
+    tap-entry h = listed-get _ (tapOfTable t) k noTap h
 
-    pub name-entry : k < 32 → getD (tablesFrom t .names) k noName ≡ nameOfTable t k
+    pub name-entry : k < nameRegion .size → getD (tablesFrom t .names) k noName ≡ nameOfTable t k
     unfolding tablesFrom
-    name-entry h = entry-get nameFrom 4 266 32 t k noName h
+    name-entry h = listed-get _ (nameOfTable t) k noName h
 
-    pub extra-entry : k < 32 → getD (tablesFrom t .extras) k noExtra ≡ extraOfTable t k
+    pub extra-entry : k < extraRegion .size → getD (tablesFrom t .extras) k noExtra ≡ extraOfTable t k
     unfolding tablesFrom
-    extra-entry h = entry-get extraFrom 3 394 32 t k noExtra h
+    extra-entry h = listed-get _ (extraOfTable t) k noExtra h
 
--- the six numbers at the front
-module _ (t : List ℕ) where
+  -- the six numbers at the front
   pub type-id-entry : tablesFrom t .«type_id» ≡ viewFrom t 0
   unfolding tablesFrom
   type-id-entry = refl
 
-  pub profiles-used : tablesFrom t .«profiles_used» ≡ getD t 2 0
+  pub profiles-used : tablesFrom t .«profiles_used» ≡ profilesUsed t
   unfolding tablesFrom
   profiles-used = refl

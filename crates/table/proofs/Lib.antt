@@ -1,7 +1,9 @@
 pub mod Replaced
 pub mod Stored
 pub mod Filed
-pub mod Chunks
+pub mod Listed
+pub mod Near
+pub mod Rows
 pub mod Entries
 pub mod Lent
 pub mod Typed

@@ -12,7 +12,7 @@ use lib.Seq.{take-suc, length-take-le, take-all, take-append-le, take-append-add
 use Rattle.octets.specs.Octets.{joined, splice}
 use Rattle.octets.proofs.Splice.{splice-length, splice-none, splice-splice, splice-comm}
 use Rattle.reference.proofs.Constants.{side}
-use Rattle.table.specs.Region.{Region, stored}
+use Rattle.table.specs.Region.{Region, stored, entry, past}
 
 pub joined-append : (xs ys : List (List ℕ)) → joined (xs ++ ys) ≡ joined xs ++ joined ys
 joined-append [] ys = refl
@@ -27,17 +27,17 @@ module _ {E : Type 0} (g : Region E) where
   unfolding stored
   stored-full t k xs h =
       let z : g .size - k ≡ 0 = omega arith in
-      ap (λ (n : ℕ). splice t (g .start + g .width * k) (joined (map (g .numbers) (take n xs)))) z ∙ splice-none t _
+      ap (λ (n : ℕ). splice t (entry g k) (joined (map (g .numbers) (take n xs)))) z ∙ splice-none t _
 
   pub stored-none : (t : List ℕ) (k : ℕ) → stored g t k [] ≡ t
   unfolding stored
-  stored-none t k = ap (λ (x : List E). splice t (g .start + g .width * k) (joined (map (g .numbers) x))) (take-all (g .size - k) [] (omega arith)) ∙ splice-none t _
+  stored-none t k = ap (λ (x : List E). splice t (entry g k) (joined (map (g .numbers) x))) (take-all (g .size - k) [] (omega arith)) ∙ splice-none t _
 
-  pub stored-one : (t : List ℕ) (k : ℕ) (x : E) → k < g .size → stored g t k (x ∷ []) ≡ splice t (g .start + g .width * k) (g .numbers x)
+  pub stored-one : (t : List ℕ) (k : ℕ) (x : E) → k < g .size → stored g t k (x ∷ []) ≡ splice t (entry g k) (g .numbers x)
   unfolding stored
   stored-one t k x h =
-      ap (λ (l : List E). splice t (g .start + g .width * k) (joined (map (g .numbers) l))) (take-all (g .size - k) (x ∷ []) (omega arith))
-      ∙ ap (splice t (g .start + g .width * k)) (append-nil (g .numbers x))
+      ap (λ (l : List E). splice t (entry g k) (joined (map (g .numbers) l))) (take-all (g .size - k) (x ∷ []) (omega arith))
+      ∙ ap (splice t (entry g k)) (append-nil (g .numbers x))
 
   pub numbers-length : (xs : List E) → length (joined (map (g .numbers) xs)) ≡ g .width * length xs
   numbers-length [] = sym (mul-zero (g .width))
@@ -45,14 +45,14 @@ module _ {E : Type 0} (g : Region E) where
       length-append (g .numbers x) (joined (map (g .numbers) xs)) ∙ omega (arith, g .wide x, numbers-length xs, mul-suc (g .width) (length xs))
 
   -- they stay in the region
-  pub span : (k : ℕ) (xs : List E) → k ≤ g .size → g .start + g .width * k + length (joined (map (g .numbers) (take (g .size - k) xs))) ≤ g .start + g .width * g .size
+  pub span : (k : ℕ) (xs : List E) → k ≤ g .size → entry g k + length (joined (map (g .numbers) (take (g .size - k) xs))) ≤ past g
   span k xs h =
       let ys = take (g .size - k) xs in
       let c : k + length ys ≤ g .size = omega (arith, length-take (g .size - k) xs) in
       omega (arith, numbers-length ys, mul-add (g .width) k (length ys), mul-le-mul-left (g .width) c)
 
-  module _ (t : List ℕ) (k : ℕ) (room : g .start + g .width * g .size ≤ length t) where
-    pub here : k ≤ g .size → g .start + g .width * k ≤ length t
+  module _ (t : List ℕ) (k : ℕ) (room : past g ≤ length t) where
+    pub here : k ≤ g .size → entry g k ≤ length t
     here h = omega (arith, mul-le-mul-left (g .width) h)
 
     pub stored-length : (xs : List E) → length (stored g t k xs) ≡ length t
@@ -61,7 +61,7 @@ module _ {E : Type 0} (g : Region E) where
       where
         fits : k ≤ g .size → length (stored g t k xs) ≡ length t
         fits h =
-            splice-length t (g .start + g .width * k) (joined (map (g .numbers) (take (g .size - k) xs))) (omega (arith, span k xs h))
+            splice-length t (entry g k) (joined (map (g .numbers) (take (g .size - k) xs))) (omega (arith, span k xs h))
 
         over : g .size < k → length (stored g t k xs) ≡ length t
         over h = ap length (stored-full t k xs (omega arith))
@@ -72,7 +72,7 @@ module _ {E : Type 0} (g : Region E) where
     stored-append xs ys = ⊎-elim fits over (side (k + length xs) (g .size))
       where
         at : ℕ
-        at = g .start + g .width * k
+        at = entry g k
 
         put : List E → List ℕ
         put l = joined (map (g .numbers) l)
@@ -81,8 +81,8 @@ module _ {E : Type 0} (g : Region E) where
         fits f =
             let n = g .size - (k + length xs) in
             let e : g .size - k ≡ length xs + n = omega arith in
-            let m : g .start + g .width * (k + length xs) ≡ at + length (put xs) = omega (arith, mul-add (g .width) k (length xs), numbers-length xs) in
-            ap (λ (l : List E). splice (splice t at (put l)) (g .start + g .width * (k + length xs)) (put (take n ys))) (take-all (g .size - k) xs (omega arith))
+            let m : entry g (k + length xs) ≡ at + length (put xs) = omega (arith, mul-add (g .width) k (length xs), numbers-length xs) in
+            ap (λ (l : List E). splice (splice t at (put l)) (entry g (k + length xs)) (put (take n ys))) (take-all (g .size - k) xs (omega arith))
             ∙ ap (λ (p : ℕ). splice (splice t at (put xs)) p (put (take n ys))) m
             ∙ splice-splice t at (put xs) (put (take n ys)) (here (omega arith))
             ∙ ap (splice t at) (sym (joined-append (map (g .numbers) xs) (map (g .numbers) (take n ys))) ∙ ap joined (sym (map-append (g .numbers) xs (take n ys))))
@@ -95,27 +95,27 @@ module _ {E : Type 0} (g : Region E) where
 
 -- entries of two sorts, whose regions do not meet, may be stored in either order
 pub stored-comm : {E F : Type 0} (g : Region E) (h : Region F) (t : List ℕ) (j : ℕ) (xs : List E) (k : ℕ) (ys : List F)
-    → g .start + g .width * g .size ≤ h .start → h .start + h .width * h .size ≤ length t → stored h (stored g t j xs) k ys ≡ stored g (stored h t k ys) j xs
+    → past g ≤ h .start → past h ≤ length t → stored h (stored g t j xs) k ys ≡ stored g (stored h t k ys) j xs
 unfolding stored
 stored-comm g h t j xs k ys apart room =
     ⊎-elim
     (λ a. ⊎-elim
-    (λ b. splice-comm (g .start + g .width * j) t _ (h .start + h .width * k) _ (omega (arith, span g j xs a)) (omega (arith, span h k ys b)))
+    (λ b. splice-comm (entry g j) t _ (entry h k) _ (omega (arith, span g j xs a)) (omega (arith, span h k ys b)))
     (λ b. stored-full h (stored g t j xs) k ys (omega arith) ∙ sym (ap (λ (x : List ℕ). stored g x j xs) (stored-full h t k ys (omega arith))))
     (side k (h .size)))
     (λ a. ap (λ (x : List ℕ). stored h x k ys) (stored-full g t j xs (omega arith)) ∙ sym (stored-full g (stored h t k ys) j xs (omega arith)))
     (side j (g .size))
 
 -- the store with its test
-pub stored-in : {E : Type 0} (g : Region E) (t : List ℕ) (k : ℕ) (x : E) {t′ : List ℕ} → k < g .size → t′ ≡ splice t (g .start + g .width * k) (g .numbers x) → t′ ≡ stored g t k (x ∷ [])
+pub stored-in : {E : Type 0} (g : Region E) (t : List ℕ) (k : ℕ) (x : E) {t′ : List ℕ} → k < g .size → t′ ≡ splice t (entry g k) (g .numbers x) → t′ ≡ stored g t k (x ∷ [])
 stored-in g t k x h p = p ∙ sym (stored-one g t k x h)
 
 pub stored-out : {E : Type 0} (g : Region E) (t : List ℕ) (k : ℕ) (x : E) {t′ : List ℕ} → g .size ≤ k → t′ ≡ t → t′ ≡ stored g t k (x ∷ [])
 stored-out g t k x h p = p ∙ sym (stored-full g t k (x ∷ []) h)
 
 -- a loop that stores entry after entry: the first i of xs, and one more
-pub stored-more : {E : Type 0} (g : Region E) (t : List ℕ) (xs : List E) (i : ℕ) (z : E) → g .start + g .width * g .size ≤ length t → i < length xs → i < g .size
-    → splice (stored g t 0 (take i xs)) (g .start + g .width * i) (g .numbers (getD xs i z)) ≡ stored g t 0 (take (i + 1) xs)
+pub stored-more : {E : Type 0} (g : Region E) (t : List ℕ) (xs : List E) (i : ℕ) (z : E) → past g ≤ length t → i < length xs → i < g .size
+    → splice (stored g t 0 (take i xs)) (entry g i) (g .numbers (getD xs i z)) ≡ stored g t 0 (take (i + 1) xs)
 stored-more g t xs i z room h s =
     let x = getD xs i z in
     let u = stored g t 0 (take i xs) in

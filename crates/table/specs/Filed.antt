@@ -3,7 +3,7 @@
 use Prim.Native.Nat.{ℕ, _+_}
 use mathlib.Core.Path.{_≡_}
 use mathlib.Core.List.{List, [], _∷_, _++_, map}
-use lib.ListN.{length, take, drop, getD}
+use lib.ListN.{length, take, drop}
 use Rattle.octets.specs.Octets.{splice}
 use Rattle.reference.specs.declared.Tap.{Tap}
 use Rattle.reference.specs.declared.NameComponent.{NameComponent}
@@ -15,7 +15,7 @@ use Rattle.reference.specs.Used.{Used}
 use Rattle.reference.specs.Placed.{placed, gathered, bodyAt, tapsAt, namesAt, extrasAt, view, profilesAt}
 use Rattle.table.specs.declared.Counts.{Counts}
 use Rattle.table.specs.Region.{stored, rows}
-use Rattle.table.specs.Flat.{profileRegion, tapRegion, nameRegion, extraRegion, bodyNumbers, tapNumbers, nameNumbers, extraNumbers, frontNumbers}
+use Rattle.table.specs.Flat.{profileRegion, tapRegion, nameRegion, extraRegion, bodyNumbers, tapNumbers, nameNumbers, extraNumbers, frontNumbers, profilesUsed, tapsUsed, namesUsed, extrasUsed}
 
 -- entries of all sorts, of which the first profile is profile i, stored in the order of the regions
 abbrev pub filed : List ℕ → ℕ → Counts → List TaggedProfile → List Tap → List NameComponent → List LiteComponent → List ℕ
@@ -54,7 +54,7 @@ pub record Files (t e : List ℕ) (u : Used) : Type 0 where
 -- Two tables with the same six numbers at the front, and the same numbers in their used entries.
 pub record SameEntries (t t′ : List ℕ) : Type 0 where
   pub front : take 6 t ≡ take 6 t′
-  pub profiles : take (getD t 2 0) (rows profileRegion t) ≡ take (getD t 2 0) (rows profileRegion t′)
-  pub taps : take (getD t 3 0) (rows tapRegion t) ≡ take (getD t 3 0) (rows tapRegion t′)
-  pub names : take (getD t 4 0) (rows nameRegion t) ≡ take (getD t 4 0) (rows nameRegion t′)
-  pub extras : take (getD t 5 0) (rows extraRegion t) ≡ take (getD t 5 0) (rows extraRegion t′)
+  pub profiles : take (profilesUsed t) (rows profileRegion t) ≡ take (profilesUsed t) (rows profileRegion t′)
+  pub taps : take (tapsUsed t) (rows tapRegion t) ≡ take (tapsUsed t) (rows tapRegion t′)
+  pub names : take (namesUsed t) (rows nameRegion t) ≡ take (namesUsed t) (rows nameRegion t′)
+  pub extras : take (extrasUsed t) (rows extraRegion t) ≡ take (extrasUsed t) (rows extraRegion t′)

@@ -1,12 +1,12 @@
 -- The flat table: tables as 490 numbers (what firmware exchanges with the library), both ways. 0, 1 are the type id's view; 2 to 5 the used
 -- counts; profiles from 6 on, 10 numbers each, the first its sort; taps from 86, 5 each; names from 266, 4 each; extras from 394, 3 each.
--- Assumes nothing.
+-- Which number is what stands here and nowhere else. Assumes nothing.
 use Prim.Native.Nat.{ℕ, _+_, _*_, _/_, _%_}
 use mathlib.Core.Path.{_≡_, refl}
 use mathlib.Core.List.{List, [], _∷_, map}
 use lib.Dec.{eqb}
-use lib.ListN.{length, drop, getD}
-use Rattle.octets.specs.Octets.{part, joined}
+use lib.ListN.{length, getD}
+use Rattle.octets.specs.Octets.{joined}
 use Rattle.reference.specs.declared.View.{View}
 use Rattle.reference.specs.declared.Tap.{Tap}
 use Rattle.reference.specs.declared.NameComponent.{NameComponent}
@@ -18,7 +18,7 @@ use Rattle.reference.specs.declared.TaggedProfile.the-variants as Sort
 use Rattle.reference.specs.declared.Profile.{Profile}
 use Rattle.reference.specs.declared.Tables.{Tables}
 use Rattle.reference.specs.Steps.{pick}
-use Rattle.table.specs.Region.{Region, chunks}
+use Rattle.table.specs.Region.{Region, entry, past, listed}
 
 -- ---- the numbers of each sort of entry
 
@@ -48,72 +48,107 @@ abbrev pub profileRegion : Region TaggedProfile
 profileRegion = record { start = 6; width = 10; size = 8; numbers = bodyNumbers; wide = bodyWide }
 
 abbrev pub tapRegion : Region Tap
-tapRegion = record { start = 86; width = 5; size = 36; numbers = tapNumbers; wide = λ x. refl }
+tapRegion = record { start = past profileRegion; width = 5; size = 36; numbers = tapNumbers; wide = λ x. refl }
 
 abbrev pub nameRegion : Region NameComponent
-nameRegion = record { start = 266; width = 4; size = 32; numbers = nameNumbers; wide = λ x. refl }
+nameRegion = record { start = past tapRegion; width = 4; size = 32; numbers = nameNumbers; wide = λ x. refl }
 
 abbrev pub extraRegion : Region LiteComponent
-extraRegion = record { start = 394; width = 3; size = 32; numbers = extraNumbers; wide = λ x. refl }
+extraRegion = record { start = past nameRegion; width = 3; size = 32; numbers = extraNumbers; wide = λ x. refl }
 
--- ---- the entry that such numbers tell; of a number wider than its field the low bits count
+-- a table that is lent
+abbrev pub tableSize : ℕ
+tableSize = past extraRegion
+
+abbrev pub Lent : List ℕ → Type 0
+Lent t = length t ≡ tableSize
+
+-- the used counts
+abbrev pub profilesUsed : List ℕ → ℕ
+profilesUsed t = getD t 2 0
+
+abbrev pub tapsUsed : List ℕ → ℕ
+tapsUsed t = getD t 3 0
+
+abbrev pub namesUsed : List ℕ → ℕ
+namesUsed t = getD t 4 0
+
+abbrev pub extrasUsed : List ℕ → ℕ
+extrasUsed t = getD t 5 0
+
+-- ---- the entry whose numbers stand from k on; of a number wider than its field the low bits count
+
+-- the view whose two numbers stand at i and j
+abbrev pub viewAt : List ℕ → ℕ → ℕ → View
+viewAt t i j = record { at = getD t i 0; len = getD t j 0 }
 
 abbrev pub viewFrom : List ℕ → ℕ → View
-viewFrom l k = record { at = getD l k 0; len = getD l (k + 1) 0 }
+viewFrom t k = viewAt t k (k + 1)
 
-abbrev pub tapFrom : List ℕ → Tap
-tapFrom l = record { id = getD l 0 0 % 65536; «use_» = getD l 1 0 % 65536; association = getD l 2 0 % 65536; selector = viewFrom l 3 }
+abbrev pub tapFrom : List ℕ → ℕ → Tap
+tapFrom t k =
+    record { id = getD t k 0 % 65536; «use_» = getD t (k + 1) 0 % 65536; association = getD t (k + 2) 0 % 65536; selector = viewAt t (k + 3) (k + 4) }
 
-abbrev pub nameFrom : List ℕ → NameComponent
-nameFrom l = record { id = viewFrom l 0; kind = viewFrom l 2 }
+abbrev pub nameFrom : List ℕ → ℕ → NameComponent
+nameFrom t k = record { id = viewAt t k (k + 1); kind = viewAt t (k + 2) (k + 3) }
 
-abbrev pub extraFrom : List ℕ → LiteComponent
-extraFrom l = record { tag = getD l 0 0; «data» = viewFrom l 1 }
+abbrev pub extraFrom : List ℕ → ℕ → LiteComponent
+extraFrom t k = record { tag = getD t k 0; «data» = viewAt t (k + 1) (k + 2) }
 
-abbrev pub locationFrom : List ℕ → ObjectLocation
-locationFrom l =
+abbrev pub locationFrom : List ℕ → ℕ → ObjectLocation
+locationFrom t k =
     record {
-      carousel = getD l 1 0;
-      «module» = getD l 2 0 % 65536;
-      «version_major» = getD l 3 0 % 256;
-      «version_minor» = getD l 4 0 % 256;
-      key = viewFrom l 5;
+      carousel = getD t (k + 1) 0;
+      «module» = getD t (k + 2) 0 % 65536;
+      «version_major» = getD t (k + 3) 0 % 256;
+      «version_minor» = getD t (k + 4) 0 % 256;
+      key = viewAt t (k + 5) (k + 6);
     }
 
-abbrev pub addressFrom : List ℕ → NsapAddress
-addressFrom l =
+abbrev pub addressFrom : List ℕ → ℕ → NsapAddress
+addressFrom t k =
     record {
-      carousel = getD l 1 0;
-      specifier0 = getD l 2 0 / 65536 % 256;
-      specifier1 = getD l 2 0 / 256 % 256;
-      specifier2 = getD l 2 0 % 256;
-      «transport_stream» = getD l 3 0 % 65536;
-      «original_network» = getD l 4 0 % 65536;
-      service = getD l 5 0 % 65536;
+      carousel = getD t (k + 1) 0;
+      specifier0 = getD t (k + 2) 0 / 65536 % 256;
+      specifier1 = getD t (k + 2) 0 / 256 % 256;
+      specifier2 = getD t (k + 2) 0 % 256;
+      «transport_stream» = getD t (k + 3) 0 % 65536;
+      «original_network» = getD t (k + 4) 0 % 65536;
+      service = getD t (k + 5) 0 % 65536;
     }
+
+abbrev pub biopFrom : List ℕ → ℕ → TaggedProfile
+biopFrom t k = Sort.Biop (locationFrom t k) (getD t (k + 7) 0) (getD t (k + 8) 0)
+
+abbrev pub liteFrom : List ℕ → ℕ → TaggedProfile
+liteFrom t k = Sort.LiteOptions (addressFrom t k) (getD t (k + 6) 0) (viewAt t (k + 7) (k + 8)) (getD t (k + 9) 0)
+
+abbrev pub opaqueFrom : List ℕ → ℕ → TaggedProfile
+opaqueFrom t k = Sort.Opaque (getD t (k + 1) 0) (viewAt t (k + 2) (k + 3))
 
 -- any sort but 1 and 2 is opaque
-unfoldable pub bodyFrom : List ℕ → TaggedProfile
-bodyFrom l =
-    pick (eqb (getD l 0 0) 1) (Sort.Biop (locationFrom l) (getD l 7 0) (getD l 8 0))
-    (pick (eqb (getD l 0 0) 2) (Sort.LiteOptions (addressFrom l) (getD l 6 0) (viewFrom l 7) (getD l 9 0)) (Sort.Opaque (getD l 1 0) (viewFrom l 2)))
+unfoldable pub bodyFrom : List ℕ → ℕ → TaggedProfile
+bodyFrom t k = pick (eqb (getD t k 0) 1) (biopFrom t k) (pick (eqb (getD t k 0) 2) (liteFrom t k) (opaqueFrom t k))
 
-abbrev pub profileFrom : List ℕ → Profile
-profileFrom l = record { body = bodyFrom l }
+abbrev pub profileFrom : List ℕ → ℕ → Profile
+profileFrom t k = record { body = bodyFrom t k }
 
--- ---- entry k of a table
+-- ---- entry i of a table
 
 abbrev pub bodyOfTable : List ℕ → ℕ → TaggedProfile
-bodyOfTable t k = bodyFrom (part t (6 + 10 * k) 10)
+bodyOfTable t i = bodyFrom t (entry profileRegion i)
+
+abbrev pub profileOfTable : List ℕ → ℕ → Profile
+profileOfTable t i = profileFrom t (entry profileRegion i)
 
 abbrev pub tapOfTable : List ℕ → ℕ → Tap
-tapOfTable t k = tapFrom (part t (86 + 5 * k) 5)
+tapOfTable t i = tapFrom t (entry tapRegion i)
 
 abbrev pub nameOfTable : List ℕ → ℕ → NameComponent
-nameOfTable t k = nameFrom (part t (266 + 4 * k) 4)
+nameOfTable t i = nameFrom t (entry nameRegion i)
 
 abbrev pub extraOfTable : List ℕ → ℕ → LiteComponent
-extraOfTable t k = extraFrom (part t (394 + 3 * k) 3)
+extraOfTable t i = extraFrom t (entry extraRegion i)
 
 -- ---- the whole table, both ways
 
@@ -121,15 +156,19 @@ unfoldable pub tablesFrom : List ℕ → Tables
 tablesFrom t =
     record {
       «type_id» = viewFrom t 0;
-      «profiles_used» = getD t 2 0;
-      «taps_used» = getD t 3 0;
-      «names_used» = getD t 4 0;
-      «extras_used» = getD t 5 0;
-      profiles = chunks profileFrom 10 8 (drop 6 t);
-      taps = chunks tapFrom 5 36 (drop 86 t);
-      names = chunks nameFrom 4 32 (drop 266 t);
-      extras = chunks extraFrom 3 32 (drop 394 t);
+      «profiles_used» = profilesUsed t;
+      «taps_used» = tapsUsed t;
+      «names_used» = namesUsed t;
+      «extras_used» = extrasUsed t;
+      profiles = listed (profileRegion .size) (profileOfTable t);
+      taps = listed (tapRegion .size) (tapOfTable t);
+      names = listed (nameRegion .size) (nameOfTable t);
+      extras = listed (extraRegion .size) (extraOfTable t);
     }
+
+-- what is stored of profiles
+abbrev pub bodies : List Profile → List TaggedProfile
+bodies l = map (λ p. p .body) l
 
 -- the six numbers at the front
 abbrev pub frontNumbers : View → ℕ → ℕ → ℕ → ℕ → List ℕ

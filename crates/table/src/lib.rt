@@ -1,20 +1,52 @@
 // Tables as 490 numbers in a slice that the caller lends: entries are stored into it. Reading and writing work on such a table, since a
 // struct of the tables' size that goes through functions by value is copied at each. specs/Flat says which number is what.
 ghost use mathlib.Core.Path.{_≡_};
-ghost use Prim.Native.Nat.{_+_, _*_, _<_};
-ghost use lib.ListN.{length, replicate};
+ghost use Prim.Native.Nat.{_+_, _≤_, _<_};
+ghost use lib.ListN.{length, getD, replicate};
 ghost use Rattle.octets.specs.Octets.{splice};
 ghost use Rattle.reference.specs.declared.TaggedProfile.the-variants as Sort;
-ghost use Rattle.table.specs.Flat.{tapNumbers, nameNumbers, extraNumbers, bodyNumbers, frontNumbers};
+ghost use Rattle.table.specs.Region.{entry};
+ghost use Rattle.table.specs.Flat.{tapNumbers, nameNumbers, extraNumbers, bodyNumbers, frontNumbers, profileRegion, tapRegion, nameRegion, extraRegion, tableSize, Lent};
+use reference::EXTRAS;
 use reference::LiteComponent;
+use reference::NAMES;
 use reference::NameComponent;
 use reference::NsapAddress;
 use reference::ObjectLocation;
+use reference::PROFILES;
+use reference::TAPS;
 use reference::Tap;
 use reference::View;
 
-// How many numbers a table has.
-pub const SIZE: usize = 490;
+// What stands where: at the front the type id's view and the used counts, then the entries of each sort, `WIDTH` numbers each.
+pub const TYPE_ID: usize = 0;
+
+pub const PROFILES_USED: usize = 2;
+
+pub const TAPS_USED: usize = 3;
+
+pub const NAMES_USED: usize = 4;
+
+pub const EXTRAS_USED: usize = 5;
+
+pub const PROFILES_AT: usize = 6;
+
+pub const PROFILE_WIDTH: usize = 10;
+
+pub const TAPS_AT: usize = PROFILES_AT + PROFILE_WIDTH * PROFILES;
+
+pub const TAP_WIDTH: usize = 5;
+
+pub const NAMES_AT: usize = TAPS_AT + TAP_WIDTH * TAPS;
+
+pub const NAME_WIDTH: usize = 4;
+
+pub const EXTRAS_AT: usize = NAMES_AT + NAME_WIDTH * NAMES;
+
+pub const EXTRA_WIDTH: usize = 3;
+
+// How many numbers a table has: 490.
+pub const SIZE: usize = EXTRAS_AT + EXTRA_WIDTH * EXTRAS;
 
 // The first number of a profile's entry: its sort.
 pub const OPAQUE: u32 = 0;
@@ -30,84 +62,98 @@ pub struct Counts {
     pub extras: usize,
 }
 
+fn wide(v: u32) -> usize
+    ensures { λ r. ⌜ (r ≡ v) × (r < 0x100000000) ⌝ }
+{
+    v as usize
+}
+
+// Number k, where it is a count or a length.
+pub fn number_at(t: &[u32], k: usize) -> usize
+    requires { ⌜ k < length (now t) ⌝ }
+    ensures { λ r. ⌜ (r ≡ getD (now (t .entry)) k 0) × (r < 0x100000000) ⌝ }
+{
+    wide(t[k])
+}
+
+// The numbers one after the other from `at` on.
+pub fn put_all(numbers: &[u32], out: &mut [u32], at: usize)
+    requires { ⌜ at + length (now numbers) ≤ length (now out) ⌝ }
+    ensures { λ r. ⌜ now (out .exit) ≡ splice (now (out .entry)) at (now (numbers .entry)) ⌝ }
+{
+    let n = numbers.len();
+    let mut i = 0;
+    while i < n {
+        let t = at + i;
+        out[t] = numbers[i];
+        i += 1;
+    }
+}
+
 // The six numbers at the front: the type id's view and the used counts.
 pub fn put_front(type_id: View, profiles: u32, taps: u32, names: u32, extras: u32, out: &mut [u32])
-    requires { ⌜ length (now out) ≡ 490 ⌝ }
+    requires { ⌜ Lent (now out) ⌝ }
     ensures { λ r. ⌜ now (out .exit) ≡ splice (now (out .entry)) 0 (frontNumbers «type_id» profiles taps names extras) ⌝ }
 {
-    out[0] = type_id.at;
-    out[1] = type_id.len;
-    out[2] = profiles;
-    out[3] = taps;
-    out[4] = names;
-    out[5] = extras;
+    let numbers = [type_id.at, type_id.len, profiles, taps, names, extras];
+    put_all(&numbers, out, 0);
 }
 
 pub fn put_tap(tap: Tap, out: &mut [u32], i: usize)
-    requires { ⌜ (i < 36) × (length (now out) ≡ 490) ⌝ }
-    ensures { λ r. ⌜ now (out .exit) ≡ splice (now (out .entry)) (86 + 5 * i) (tapNumbers tap) ⌝ }
+    requires { ⌜ (i < tapRegion .size) × Lent (now out) ⌝ }
+    ensures { λ r. ⌜ now (out .exit) ≡ splice (now (out .entry)) (entry tapRegion i) (tapNumbers tap) ⌝ }
 {
-    let at = 86 + 5 * i;
-    out[at] = tap.id as u32;
-    out[at + 1] = tap.use_ as u32;
-    out[at + 2] = tap.association as u32;
-    out[at + 3] = tap.selector.at;
-    out[at + 4] = tap.selector.len;
+    let numbers = [
+        tap.id as u32,
+        tap.use_ as u32,
+        tap.association as u32,
+        tap.selector.at,
+        tap.selector.len,
+    ];
+    put_all(&numbers, out, TAPS_AT + TAP_WIDTH * i);
 }
 
 pub fn put_name(name: NameComponent, out: &mut [u32], i: usize)
-    requires { ⌜ (i < 32) × (length (now out) ≡ 490) ⌝ }
-    ensures { λ r. ⌜ now (out .exit) ≡ splice (now (out .entry)) (266 + 4 * i) (nameNumbers name) ⌝ }
+    requires { ⌜ (i < nameRegion .size) × Lent (now out) ⌝ }
+    ensures { λ r. ⌜ now (out .exit) ≡ splice (now (out .entry)) (entry nameRegion i) (nameNumbers name) ⌝ }
 {
-    let at = 266 + 4 * i;
-    out[at] = name.id.at;
-    out[at + 1] = name.id.len;
-    out[at + 2] = name.kind.at;
-    out[at + 3] = name.kind.len;
+    let numbers = [name.id.at, name.id.len, name.kind.at, name.kind.len];
+    put_all(&numbers, out, NAMES_AT + NAME_WIDTH * i);
 }
 
 pub fn put_extra(extra: LiteComponent, out: &mut [u32], i: usize)
-    requires { ⌜ (i < 32) × (length (now out) ≡ 490) ⌝ }
-    ensures { λ r. ⌜ now (out .exit) ≡ splice (now (out .entry)) (394 + 3 * i) (extraNumbers extra) ⌝ }
+    requires { ⌜ (i < extraRegion .size) × Lent (now out) ⌝ }
+    ensures { λ r. ⌜ now (out .exit) ≡ splice (now (out .entry)) (entry extraRegion i) (extraNumbers extra) ⌝ }
 {
-    let at = 394 + 3 * i;
-    out[at] = extra.tag;
-    out[at + 1] = extra.data.at;
-    out[at + 2] = extra.data.len;
+    let numbers = [extra.tag, extra.data.at, extra.data.len];
+    put_all(&numbers, out, EXTRAS_AT + EXTRA_WIDTH * i);
 }
 
 pub fn put_opaque(tag: u32, data: View, out: &mut [u32], i: usize)
-    requires { ⌜ (i < 8) × (length (now out) ≡ 490) ⌝ }
-    ensures { λ r. ⌜ now (out .exit) ≡ splice (now (out .entry)) (6 + 10 * i) (bodyNumbers (Sort.Opaque tag «data»)) ⌝ }
+    requires { ⌜ (i < profileRegion .size) × Lent (now out) ⌝ }
+    ensures { λ r. ⌜ now (out .exit) ≡ splice (now (out .entry)) (entry profileRegion i) (bodyNumbers (Sort.Opaque tag «data»)) ⌝ }
 {
-    let at = 6 + 10 * i;
-    out[at] = OPAQUE;
-    out[at + 1] = tag;
-    out[at + 2] = data.at;
-    out[at + 3] = data.len;
-    out[at + 4] = 0;
-    out[at + 5] = 0;
-    out[at + 6] = 0;
-    out[at + 7] = 0;
-    out[at + 8] = 0;
-    out[at + 9] = 0;
+    let numbers = [OPAQUE, tag, data.at, data.len, 0, 0, 0, 0, 0, 0];
+    put_all(&numbers, out, PROFILES_AT + PROFILE_WIDTH * i);
 }
 
 pub fn put_biop(location: ObjectLocation, taps: u32, extras: u32, out: &mut [u32], i: usize)
-    requires { ⌜ (i < 8) × (length (now out) ≡ 490) ⌝ }
-    ensures { λ r. ⌜ now (out .exit) ≡ splice (now (out .entry)) (6 + 10 * i) (bodyNumbers (Sort.Biop location taps extras)) ⌝ }
+    requires { ⌜ (i < profileRegion .size) × Lent (now out) ⌝ }
+    ensures { λ r. ⌜ now (out .exit) ≡ splice (now (out .entry)) (entry profileRegion i) (bodyNumbers (Sort.Biop location taps extras)) ⌝ }
 {
-    let at = 6 + 10 * i;
-    out[at] = BIOP;
-    out[at + 1] = location.carousel;
-    out[at + 2] = location.module as u32;
-    out[at + 3] = location.version_major as u32;
-    out[at + 4] = location.version_minor as u32;
-    out[at + 5] = location.key.at;
-    out[at + 6] = location.key.len;
-    out[at + 7] = taps;
-    out[at + 8] = extras;
-    out[at + 9] = 0;
+    let numbers = [
+        BIOP,
+        location.carousel,
+        location.module as u32,
+        location.version_major as u32,
+        location.version_minor as u32,
+        location.key.at,
+        location.key.len,
+        taps,
+        extras,
+        0,
+    ];
+    put_all(&numbers, out, PROFILES_AT + PROFILE_WIDTH * i);
 }
 
 pub fn put_lite(
@@ -118,28 +164,30 @@ pub fn put_lite(
     out: &mut [u32],
     i: usize,
 )
-    requires { ⌜ (i < 8) × (length (now out) ≡ 490) ⌝ }
-    ensures { λ r. ⌜ now (out .exit) ≡ splice (now (out .entry)) (6 + 10 * i) (bodyNumbers (Sort.LiteOptions address names context extras)) ⌝ }
+    requires { ⌜ (i < profileRegion .size) × Lent (now out) ⌝ }
+    ensures { λ r. ⌜ now (out .exit) ≡ splice (now (out .entry)) (entry profileRegion i) (bodyNumbers (Sort.LiteOptions address names context extras)) ⌝ }
 {
-    let at = 6 + 10 * i;
-    out[at] = LITE_OPTIONS;
-    out[at + 1] = address.carousel;
-    out[at + 2] = (address.specifier0 as u32) * 65536
-        + (address.specifier1 as u32) * 256
-        + (address.specifier2 as u32);
-    out[at + 3] = address.transport_stream as u32;
-    out[at + 4] = address.original_network as u32;
-    out[at + 5] = address.service as u32;
-    out[at + 6] = names;
-    out[at + 7] = context.at;
-    out[at + 8] = context.len;
-    out[at + 9] = extras;
+    let numbers = [
+        LITE_OPTIONS,
+        address.carousel,
+        (address.specifier0 as u32) * 65536
+            + (address.specifier1 as u32) * 256
+            + (address.specifier2 as u32),
+        address.transport_stream as u32,
+        address.original_network as u32,
+        address.service as u32,
+        names,
+        context.at,
+        context.len,
+        extras,
+    ];
+    put_all(&numbers, out, PROFILES_AT + PROFILE_WIDTH * i);
 }
 
 // All numbers zero: the empty tables.
 pub fn clear(out: &mut [u32])
-    requires { ⌜ length (now out) ≡ 490 ⌝ }
-    ensures { λ r. ⌜ now (out .exit) ≡ replicate 490 0 ⌝ }
+    requires { ⌜ Lent (now out) ⌝ }
+    ensures { λ r. ⌜ now (out .exit) ≡ replicate tableSize 0 ⌝ }
 {
     let mut i: usize = 0;
     while i < SIZE {

@@ -4,7 +4,7 @@ use mathlib.Core.List.{List}
 use Rattle.reference.specs.declared.TaggedProfile.{TaggedProfile}
 use Rattle.reference.specs.Used.{Own, tapsIn, namesIn, extrasIn}
 use Rattle.table.specs.declared.Counts.{Counts}
-use Rattle.table.specs.Flat.{bodyOfTable}
+use Rattle.table.specs.Flat.{bodyOfTable, tapRegion, nameRegion, extraRegion}
 use Rattle.profiles.specs.Own.{tapsOn, namesOn, extrasOn}
 
 -- how many entries a profile counts
@@ -26,6 +26,6 @@ afterOf f n = record { taps = f .taps + n .taps; names = f .names + n .names; ex
 
 -- the entries n of a profile that begin at f lie within the tables
 pub record Placed (f n : Counts) : Type 0 where
-  pub taps : f .taps + n .taps ≤ 36
-  pub names : f .names + n .names ≤ 32
-  pub extras : f .extras + n .extras ≤ 32
+  pub taps : f .taps + n .taps ≤ tapRegion .size
+  pub names : f .names + n .names ≤ nameRegion .size
+  pub extras : f .extras + n .extras ≤ extraRegion .size

@@ -12,7 +12,7 @@ ghost use Rattle.reference.specs.Contents.{profileOf};
 ghost use Rattle.reference.specs.Checks.{both, each};
 ghost use Rattle.reference.specs.Meaning.{sum};
 ghost use Rattle.reference.specs.Writer.{ownSize, sizeOf, imageOf, countsCheck, roomCheck, typeCheck, ownShort, measureCheck, writeCheck, measured};
-ghost use Rattle.table.specs.Flat.{bodyOfTable, tablesFrom};
+ghost use Rattle.table.specs.Flat.{bodyOfTable, tablesFrom, profileRegion, Lent};
 ghost use Rattle.profiles.specs.Own.{OwnSound, PutAll, PutOwn};
 ghost use Rattle.writing.specs.Own.{countsIn, ownOn, afterOf, Placed};
 ghost use Rattle.writing.specs.Writes.{Writes};
@@ -42,10 +42,14 @@ use reference::wrong;
 use table::BIOP;
 use table::Counts;
 use table::LITE_OPTIONS;
+use table::PROFILES_USED;
+use table::SIZE;
+use table::TYPE_ID;
+use table::number_at;
 
 // How many entries profile i counts.
 fn counts_at(t: &[u32], i: usize) -> Counts
-    requires { ⌜ (i < 8) × (length (now t) ≡ 490) ⌝ }
+    requires { ⌜ (i < profileRegion .size) × Lent (now t) ⌝ }
     ensures { λ r. ⌜ r ≡ countsIn (bodyOfTable (now (t .entry)) i) ⌝ }
 {
     Counts {
@@ -77,7 +81,7 @@ fn write_profile(
     out: &mut [u8],
     at: usize,
 ) -> usize
-    requires { ⌜ (i < 8) × (length (now t) ≡ 490) ⌝ }
+    requires { ⌜ (i < profileRegion .size) × Lent (now t) ⌝ }
     requires { ⌜ (count ≡ countsIn (bodyOfTable (now t) i)) × (Placed first count) ⌝ }
     requires { ⌜ OwnSound (length (now src)) (ownOn (now t) i first) ⌝ }
     requires { ⌜ at + ownSize (ownOn (now t) i first) ≤ length (now out) ⌝ }
@@ -119,11 +123,11 @@ fn write_profile(
 
 // The profiles, one after the other.
 fn write_profiles(t: &[u32], src: &[u8], out: &mut [u8], at: usize) -> usize
-    requires { ⌜ (length (now t) ≡ 490) × (writeCheck (tablesFrom (now t)) (length (now src)) (length (now out)) ≡ Pass) ⌝ }
+    requires { ⌜ Lent (now t) × (writeCheck (tablesFrom (now t)) (length (now src)) (length (now out)) ≡ Pass) ⌝ }
     requires { ⌜ at + sum ownSize (ownedOf (usedOf (tablesFrom (now t)))) ≤ length (now out) ⌝ }
     ensures { λ r. ⌜ PutAll (profileOf (now (src .entry))) layoutProfile ownSize (now (out .entry)) at (ownedOf (usedOf (tablesFrom (now (t .entry))))) (now (out .exit)) r ⌝ }
 {
-    let used = t[2] as usize;
+    let used = number_at(t, PROFILES_USED);
     let mut first = Counts {
         taps: 0,
         names: 0,
@@ -142,24 +146,24 @@ fn write_profiles(t: &[u32], src: &[u8], out: &mut [u8], at: usize) -> usize
 
 // The whole image, at the start of the output.
 fn write_image(t: &[u32], src: &[u8], out: &mut [u8]) -> usize
-    requires { ⌜ (length (now t) ≡ 490) × (writeCheck (tablesFrom (now t)) (length (now src)) (length (now out)) ≡ Pass) ⌝ }
+    requires { ⌜ Lent (now t) × (writeCheck (tablesFrom (now t)) (length (now src)) (length (now out)) ≡ Pass) ⌝ }
     ensures { λ r. ⌜ Put (now (out .entry)) 0 (sizeOf (usedOf (tablesFrom (now (t .entry))))) (imageOf (now (src .entry)) (tablesFrom (now (t .entry)))) (now (out .exit)) r ⌝ }
 {
-    let type_id = view_at(t, 0);
+    let type_id = view_at(t, TYPE_ID);
     let a = write_run(type_id, src, out, 0);
-    let b = put32(out, a, t[2]);
+    let b = put32(out, a, t[PROFILES_USED]);
     write_profiles(t, src, out, b)
 }
 
 // 5, 4 and 2, in this order, for an image of `total` octets and an output of `room`.
 fn check_output(t: &[u32], total: usize, room: usize) -> Check
-    requires { ⌜ (length (now t) ≡ 490) × (countsCheck (tablesFrom (now t)) ≡ Pass) × (total ≡ sizeOf (usedOf (tablesFrom (now t)))) ⌝ }
+    requires { ⌜ Lent (now t) × (countsCheck (tablesFrom (now t)) ≡ Pass) × (total ≡ sizeOf (usedOf (tablesFrom (now t)))) ⌝ }
     ensures { λ r. ⌜ r ≡ both (roomCheck (sizeOf (usedOf (tablesFrom (now (t .entry))))) room) (both (typeCheck (tablesFrom (now (t .entry)) .«type_id»)) (each ownShort (ownedOf (usedOf (tablesFrom (now (t .entry))))))) ⌝ }
 {
     if room < total {
         return Check::Refuse(no_room(total, room));
     }
-    let type_id = view_at(t, 0);
+    let type_id = view_at(t, TYPE_ID);
     if type_id.len % 4 != 0 {
         return Check::Refuse(wrong(4, 33));
     }
@@ -172,7 +176,7 @@ fn check_output(t: &[u32], total: usize, room: usize) -> Check
 
 // The same as `write_from`, of a table that measuring has passed, with the image's length.
 pub fn write_measured(t: &[u32], src: &[u8], out: &mut [u8], total: usize) -> Answer
-    requires { ⌜ (length (now t) ≡ 490) × (measureCheck (tablesFrom (now t)) (length (now src)) ≡ Pass) × (total ≡ sizeOf (usedOf (tablesFrom (now t)))) ⌝ }
+    requires { ⌜ Lent (now t) × (measureCheck (tablesFrom (now t)) (length (now src)) ≡ Pass) × (total ≡ sizeOf (usedOf (tablesFrom (now t)))) ⌝ }
     ensures { λ r. ⌜ Writes (tablesFrom (now (t .entry))) (now (src .entry)) (now (out .entry)) r (now (out .exit)) ⌝ }
 {
     let found = check_output(t, total, out.len());
@@ -184,7 +188,7 @@ pub fn write_measured(t: &[u32], src: &[u8], out: &mut [u8], total: usize) -> An
 
 // Writes the image at the start of `out` and answers its length; or refuses, and leaves `out` as it is.
 pub fn write_from(t: &[u32], src: &[u8], out: &mut [u8]) -> Answer
-    requires { ⌜ length (now t) ≡ 490 ⌝ }
+    requires { ⌜ Lent (now t) ⌝ }
     ensures { λ r. ⌜ Writes (tablesFrom (now (t .entry))) (now (src .entry)) (now (out .entry)) r (now (out .exit)) ⌝ }
 {
     let length = length_over(t, src.len());
@@ -198,7 +202,7 @@ pub fn write_from(t: &[u32], src: &[u8], out: &mut [u8]) -> Answer
 pub fn image_length(t: Tables, src: &[u8]) -> Answer
     ensures { λ r. ⌜ r ≡ measured t (now (src .entry)) ⌝ }
 {
-    let mut table = [0u32; 490];
+    let mut table = [0u32; SIZE];
     put_tables(t, &mut table);
     length_from(&table, src)
 }
@@ -207,7 +211,7 @@ pub fn image_length(t: Tables, src: &[u8]) -> Answer
 pub fn write(t: Tables, src: &[u8], out: &mut [u8]) -> Answer
     ensures { λ r. ⌜ Writes t (now (src .entry)) (now (out .entry)) r (now (out .exit)) ⌝ }
 {
-    let mut table = [0u32; 490];
+    let mut table = [0u32; SIZE];
     put_tables(t, &mut table);
     write_from(&table, src, out)
 }

@@ -1,22 +1,21 @@
 -- `answers::put_numbers` meets its contract. The loop's invariant: the first i numbers were replaced. Assumes nothing.
 use Prim.Native.Nat.{_-_}
 use native.Mathlib.Omega.{arith}
-use Rattle.octets.specs.Octets.{be}
-use Rattle.table.specs.Region.{chunks}
-use Rattle.table.proofs.Chunks.{chunks-length}
+use Rattle.table.proofs.Listed.{listed-length}
 use Rattle.table.proofs.Replaced.{Replaced, begin, finish}
-use Rattle.answers.proofs.Stored.{number-more}
+use Rattle.table.specs.Flat.{tableSize}
+use Rattle.answers.proofs.Stored.{numbersIn, number-more}
 use Rattle.answers.proofs.put_numbers.Statement.{statement}
 use Rattle.answers.proofs.put_numbers.Tie as tie
 
 abbrev Inv-loop : tie.InvT-loop
-Inv-loop octets table₀ i₀ table i = Replaced 490 (chunks be 4 490 octets) table₀ table i
+Inv-loop octets table₀ i₀ table i = Replaced tableSize (numbersIn octets) table₀ table i
 
 abbrev μ-loop : tie.MeasureT-loop
-μ-loop octets table₀ i₀ table i = 490 - i
+μ-loop octets table₀ i₀ table i = tableSize - i
 
 loop-holds : tie.Need-loop-holds Inv-loop μ-loop
-loop-holds c = begin (chunks-length be 4 490 _) (omega arith)
+loop-holds c = begin (listed-length tableSize _) (omega arith)
 
 mul-be32 : tie.Need-mul-be32 Inv-loop μ-loop
 mul-be32 c = omega arith

@@ -3,12 +3,13 @@ use mathlib.Core.Path.{_≡_}
 use native.Mathlib.Omega.{arith}
 use borrow.Author.Needs.{needs}
 use lib.ListN.{length}
+use Rattle.table.specs.Flat.{Lent}
 use Rattle.answers.proofs.serve_all.Statement.{statement}
 use Rattle.answers.proofs.serve_all.Tie as tie
 
 abbrev Inv-loop : tie.InvT-loop
 Inv-loop table₀ src₀ out₀ line₀ turns₀ table src out line turns =
-    (length table ≡ 490) × (length src ≡ 70000) × (length out ≡ 70000) × (length line ≡ 150000)
+    Lent table × (length src ≡ 70000) × (length out ≡ 70000) × (length line ≡ 150000)
 
 abbrev μ-loop : tie.MeasureT-loop
 μ-loop table₀ src₀ out₀ line₀ turns₀ table src out line turns = turns

@@ -1,8 +1,6 @@
 -- `by_value::profile_at` meets its contract. By the sort. Assumes nothing.
 use borrow.Author.Needs.{needs}
-use Prim.Native.Nat.{_+_, _*_}
 use mathlib.Core.Path.{sym, _∙_}
-use Rattle.octets.specs.Octets.{part}
 use Rattle.entries.proofs.Sorts.{body-biop, body-lite, body-opaque}
 use Rattle.by_value.proofs.profile_at.Statement.{statement}
 use Rattle.by_value.proofs.profile_at.Tie as tie
@@ -15,9 +13,7 @@ biop-at-requires c κs = search needs
 
 returns : tie.Need-returns
 returns c =
-    let a = c .before .before .before .before .args in
-    let l = part (a .s .now) (6 + 10 * a .i) 10 in
-    let e = c .biop-at .ensures ∙ sym (body-biop l (sym (c .before .before .sort-at .ensures) ∙ c .before .if1 .taken)) in
+    let e = c .biop-at .ensures ∙ sym (body-biop _ _ (sym (c .before .before .sort-at .ensures) ∙ c .before .if1 .taken)) in
     λ j. record { body = e j }
 
 lite-at-requires : tie.Need-lite-at-requires
@@ -25,9 +21,7 @@ lite-at-requires c κs = search needs
 
 returns-2 : tie.Need-returns-2
 returns-2 c =
-    let a = c .before .before .before .before .before .args in
-    let l = part (a .s .now) (6 + 10 * a .i) 10 in
-    let e = c .lite-at .ensures ∙ sym (body-lite l (sym (c .before .before .before .sort-at .ensures) ∙ c .before .if2 .taken)) in
+    let e = c .lite-at .ensures ∙ sym (body-lite _ _ (sym (c .before .before .before .sort-at .ensures) ∙ c .before .if2 .taken)) in
     λ j. record { body = e j }
 
 opaque-at-requires : tie.Need-opaque-at-requires
@@ -35,10 +29,8 @@ opaque-at-requires c κs = search needs
 
 returns-3 : tie.Need-returns-3
 returns-3 c =
-    let a = c .before .before .before .before .before .args in
-    let l = part (a .s .now) (6 + 10 * a .i) 10 in
     let s = c .before .before .before .sort-at .ensures in
-    let e = c .opaque-at .ensures ∙ sym (body-opaque l (λ q. c .before .before .if1 .left (s ∙ q)) (λ q. c .before .if2 .left (s ∙ q))) in
+    let e = c .opaque-at .ensures ∙ sym (body-opaque _ _ (λ q. c .before .before .if1 .left (s ∙ q)) (λ q. c .before .if2 .left (s ∙ q))) in
     λ j. record { body = e j }
 
 pub profile-at-spec : {M : Type 1} → statement M

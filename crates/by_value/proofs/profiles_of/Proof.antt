@@ -3,17 +3,17 @@ use Prim.Native.Nat.{_-_}
 use mathlib.Core.Path.{refl, sym, _∙_}
 use native.Mathlib.Omega.{arith}
 use Rattle.reference.specs.Tabled.{noProfile}
-use Rattle.table.specs.Flat.{tablesFrom}
+use Rattle.table.specs.Flat.{tablesFrom, profileRegion}
 use Rattle.table.proofs.Entries.{profiles-length, profile-entry}
 use Rattle.table.proofs.Replaced.{Replaced, begin, turn, finish}
 use Rattle.by_value.proofs.profiles_of.Statement.{statement}
 use Rattle.by_value.proofs.profiles_of.Tie as tie
 
 abbrev Inv-loop : tie.InvT-loop
-Inv-loop s all₀ i₀ all i = Replaced 8 (tablesFrom s .profiles) all₀ all i
+Inv-loop s all₀ i₀ all i = Replaced (profileRegion .size) (tablesFrom s .profiles) all₀ all i
 
 abbrev μ-loop : tie.MeasureT-loop
-μ-loop s all₀ i₀ all i = 8 - i
+μ-loop s all₀ i₀ all i = profileRegion .size - i
 
 loop-holds : tie.Need-loop-holds Inv-loop μ-loop
 loop-holds c = begin (profiles-length (c .before .args .s .now)) refl

@@ -1,10 +1,10 @@
 -- `by_value::put_profile` meets its contract. By the sort. Assumes nothing.
 use borrow.Author.Needs.{needs}
-use Prim.Native.Nat.{_+_, _*_}
 use mathlib.Core.Path.{sym, ap, _∙_}
 use Rattle.octets.specs.Octets.{splice}
 use Rattle.reference.specs.declared.TaggedProfile.{TaggedProfile}
-use Rattle.table.specs.Flat.{bodyNumbers}
+use Rattle.table.specs.Flat.{bodyNumbers, profileRegion}
+use Rattle.table.specs.Region.{entry}
 use Rattle.by_value.proofs.put_profile.Statement.{statement}
 use Rattle.by_value.proofs.put_profile.Tie as tie
 
@@ -32,7 +32,7 @@ same-length c = search needs
 returns : tie.Need-returns
 returns c =
     let a = c .before .before .before .before .before .before .before .before .args in
-    c .before .before .put-opaque .ensures ∙ ap (λ (b : TaggedProfile). splice (a .out .now) (6 + 10 * a .i) (bodyNumbers b)) (sym (c .before .before .before .before .before .body .given .1))
+    c .before .before .put-opaque .ensures ∙ ap (λ (b : TaggedProfile). splice (a .out .now) (entry profileRegion (a .i)) (bodyNumbers b)) (sym (c .before .before .before .before .before .body .given .1))
 
 same-length-2 : tie.Need-same-length-2
 same-length-2 c = search needs
@@ -40,7 +40,7 @@ same-length-2 c = search needs
 returns-2 : tie.Need-returns-2
 returns-2 c =
     let a = c .before .before .before .before .before .before .before .before .args in
-    c .before .before .put-biop .ensures ∙ ap (λ (b : TaggedProfile). splice (a .out .now) (6 + 10 * a .i) (bodyNumbers b)) (sym (c .before .before .before .before .before .body2 .given .1))
+    c .before .before .put-biop .ensures ∙ ap (λ (b : TaggedProfile). splice (a .out .now) (entry profileRegion (a .i)) (bodyNumbers b)) (sym (c .before .before .before .before .before .body2 .given .1))
 
 same-length-3 : tie.Need-same-length-3
 same-length-3 c = search needs
@@ -48,7 +48,7 @@ same-length-3 c = search needs
 returns-3 : tie.Need-returns-3
 returns-3 c =
     let a = c .before .before .before .before .before .before .before .before .args in
-    c .before .before .put-lite .ensures ∙ ap (λ (b : TaggedProfile). splice (a .out .now) (6 + 10 * a .i) (bodyNumbers b)) (sym (c .before .before .before .before .before .body3 .given .1))
+    c .before .before .put-lite .ensures ∙ ap (λ (b : TaggedProfile). splice (a .out .now) (entry profileRegion (a .i)) (bodyNumbers b)) (sym (c .before .before .before .before .before .body3 .given .1))
 
 pub put-profile-spec : {M : Type 1} → statement M
 put-profile-spec =

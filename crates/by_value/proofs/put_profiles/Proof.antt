@@ -1,27 +1,27 @@
 -- `by_value::put_profiles` meets its contract. Entry by entry. Assumes nothing.
 use borrow.Author.Needs.{needs}
-use Prim.Native.Nat.{_+_, _-_, _*_}
+use Prim.Native.Nat.{_-_}
 use mathlib.Core.Path.{_≡_, sym, ap, _∙_}
 use native.Mathlib.Omega.{arith}
 use lib.ListN.{length, length-map, List·getD-map}
 use Rattle.octets.specs.Octets.{splice}
 use Rattle.reference.specs.declared.TaggedProfile.{TaggedProfile}
 use Rattle.reference.specs.Tabled.{noProfile}
-use Rattle.table.specs.Flat.{bodyNumbers, profileRegion}
-use Rattle.by_value.specs.Bodies.{bodies}
+use Rattle.table.specs.Flat.{bodyNumbers, profileRegion, bodies}
+use Rattle.table.specs.Region.{entry}
 use Rattle.by_value.proofs.Storing.{Storing, begin, turn, finish}
 use Rattle.by_value.proofs.put_profiles.Statement.{statement}
 use Rattle.by_value.proofs.put_profiles.Tie as tie
 
 abbrev Inv-loop : tie.InvT-loop
-Inv-loop out₀ all i₀ out i = (length all ≡ 8) × Storing profileRegion (bodies all) out₀ out i
+Inv-loop out₀ all i₀ out i = (length all ≡ profileRegion .size) × Storing profileRegion (bodies all) out₀ out i
 
 abbrev μ-loop : tie.MeasureT-loop
-μ-loop out₀ all i₀ out i = 8 - i
+μ-loop out₀ all i₀ out i = profileRegion .size - i
 
 loop-holds : tie.Need-loop-holds Inv-loop μ-loop
 loop-holds c =
-    let wide : length (c .before .args .t1) ≡ 8 = c .before .good .0 .1 .0 .1 in
+    let wide : length (c .before .args .t1) ≡ profileRegion .size = c .before .good .0 .1 .0 .1 in
     (wide, begin (length-map (c .before .args .t1) _ ∙ wide) (omega arith))
 
 mul-p : tie.Need-mul-p Inv-loop μ-loop
@@ -46,7 +46,7 @@ loop-again c =
     let e = sym (List·getD-map (λ p. p .body) (a .t1) (l .i) noProfile) in (
       l .inv .0,
       turn (l .inv .1) (noProfile .body) (omega arith)
-          (c .before .before .put-profile .ensures ∙ ap (λ (b : TaggedProfile). splice (l .out) (6 + 10 * l .i) (bodyNumbers b)) e),
+          (c .before .before .put-profile .ensures ∙ ap (λ (b : TaggedProfile). splice (l .out) (entry profileRegion (l .i)) (bodyNumbers b)) e),
     )
 
 same-length : tie.Need-same-length Inv-loop μ-loop

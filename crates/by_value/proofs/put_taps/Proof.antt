@@ -1,9 +1,7 @@
 -- `by_value::put_taps` meets its contract. Entry by entry. Assumes nothing.
 use borrow.Author.Needs.{needs}
 use Prim.Native.Nat.{_-_}
-use mathlib.Core.Path.{_≡_}
 use native.Mathlib.Omega.{arith}
-use lib.ListN.{length}
 use Rattle.reference.specs.Tabled.{noTap}
 use Rattle.table.specs.Flat.{tapRegion}
 use Rattle.by_value.proofs.Storing.{Storing, begin, turn, finish}
@@ -11,15 +9,13 @@ use Rattle.by_value.proofs.put_taps.Statement.{statement}
 use Rattle.by_value.proofs.put_taps.Tie as tie
 
 abbrev Inv-loop : tie.InvT-loop
-Inv-loop out₀ all i₀ out i = (length all ≡ 36) × Storing tapRegion all out₀ out i
+Inv-loop out₀ all i₀ out i = Storing tapRegion all out₀ out i
 
 abbrev μ-loop : tie.MeasureT-loop
-μ-loop out₀ all i₀ out i = 36 - i
+μ-loop out₀ all i₀ out i = tapRegion .size - i
 
 loop-holds : tie.Need-loop-holds Inv-loop μ-loop
-loop-holds c =
-    let wide : length (c .before .args .t1) ≡ 36 = c .before .good .0 .1 .0 .1 in
-    (wide, begin wide (omega arith))
+loop-holds c = begin (c .before .good .0 .1 .0 .1) (omega arith)
 
 mul-t : tie.Need-mul-t Inv-loop μ-loop
 mul-t c = omega arith
@@ -37,13 +33,13 @@ loop-less : tie.Need-loop-less Inv-loop μ-loop
 loop-less c = omega arith
 
 loop-again : tie.Need-loop-again Inv-loop μ-loop
-loop-again c = let l = c .before .before .before .before .before .before .loop in (l .inv .0, turn (l .inv .1) noTap (omega arith) (c .before .before .put-tap .ensures))
+loop-again c = let l = c .before .before .before .before .before .before .loop in turn (l .inv) noTap (omega arith) (c .before .before .put-tap .ensures)
 
 same-length : tie.Need-same-length Inv-loop μ-loop
-same-length c = c .before .loop .inv .1 .long
+same-length c = c .before .loop .inv .long
 
 returns : tie.Need-returns Inv-loop μ-loop
-returns c = finish (c .before .loop .inv .1) (omega arith)
+returns c = finish (c .before .loop .inv) (omega arith)
 
 pub put-taps-spec : {M : Type 1} → statement M
 put-taps-spec =

@@ -1,6 +1,5 @@
 -- `by_value::tables_of` meets its contract. Sort by sort. Assumes nothing.
-use lib.ListN.{getD}
-use Rattle.table.specs.Flat.{tablesFrom}
+use Rattle.table.specs.Flat.{tablesFrom, profilesUsed, tapsUsed, namesUsed, extrasUsed}
 use borrow.Author.Needs.{needs}
 use Rattle.by_value.proofs.tables_of.Statement.{statement}
 use Rattle.by_value.proofs.tables_of.Tie as tie
@@ -49,10 +48,10 @@ returns c =
     λ j.
     record {
       «type_id» = type-id j;
-      «profiles_used» = getD s 2 0;
-      «taps_used» = getD s 3 0;
-      «names_used» = getD s 4 0;
-      «extras_used» = getD s 5 0;
+      «profiles_used» = profilesUsed s;
+      «taps_used» = tapsUsed s;
+      «names_used» = namesUsed s;
+      «extras_used» = extrasUsed s;
       profiles = profiles j;
       taps = taps j;
       names = names j;

@@ -3,17 +3,17 @@ use Prim.Native.Nat.{_-_}
 use mathlib.Core.Path.{refl, sym, _∙_}
 use native.Mathlib.Omega.{arith}
 use Rattle.reference.specs.Tabled.{noTap}
-use Rattle.table.specs.Flat.{tablesFrom}
+use Rattle.table.specs.Flat.{tablesFrom, tapRegion}
 use Rattle.table.proofs.Entries.{taps-length, tap-entry}
 use Rattle.table.proofs.Replaced.{Replaced, begin, turn, finish}
 use Rattle.by_value.proofs.taps_of.Statement.{statement}
 use Rattle.by_value.proofs.taps_of.Tie as tie
 
 abbrev Inv-loop : tie.InvT-loop
-Inv-loop s all₀ i₀ all i = Replaced 36 (tablesFrom s .taps) all₀ all i
+Inv-loop s all₀ i₀ all i = Replaced (tapRegion .size) (tablesFrom s .taps) all₀ all i
 
 abbrev μ-loop : tie.MeasureT-loop
-μ-loop s all₀ i₀ all i = 36 - i
+μ-loop s all₀ i₀ all i = tapRegion .size - i
 
 loop-holds : tie.Need-loop-holds Inv-loop μ-loop
 loop-holds c = begin (taps-length (c .before .args .s .now)) refl

@@ -15,9 +15,10 @@ use Rattle.records.proofs.Recorded.{got-stands}
 use Rattle.cache.proofs.Pages.{begun, turn, when-full, when-none}
 use Rattle.cache.proofs.put_rows.Statement.{statement}
 use Rattle.cache.proofs.put_rows.Tie as tie
+use Rattle.table.specs.Flat.{Lent}
 
 abbrev Inv-loop : tie.InvT-loop
-Inv-loop block at seen table₀ page₀ room next₀ count₀ used₀ table page next count used = (Rowed block at seen page next count used) × (length table ≡ 490) × (length page ≡ room)
+Inv-loop block at seen table₀ page₀ room next₀ count₀ used₀ table page next count used = (Rowed block at seen page next count used) × (Lent table) × (length page ≡ room)
 
 abbrev μ-loop : tie.MeasureT-loop
 μ-loop block at seen table₀ page₀ room next₀ count₀ used₀ table page next count used = length block - next

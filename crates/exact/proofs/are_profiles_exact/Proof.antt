@@ -1,9 +1,10 @@
 -- `exact::are_profiles_exact` meets its contract. The loop's invariant: every profile before i is exact. Assumes nothing.
-use Prim.Native.Nat.{_+_, _*_, _-_, _≤_}
+use Prim.Native.Nat.{_-_, _≤_}
 use mathlib.Core.Path.{_≡_, refl, sym, ap, _∙_}
 use mathlib.Core.Bool.{true}
 use native.Mathlib.Omega.{arith}
-use Rattle.octets.specs.Octets.{part}
+use Rattle.table.specs.Region.{entry}
+use Rattle.table.specs.Flat.{profileRegion}
 use Rattle.exact.specs.Exact.{every, profileExact, profilesExact}
 use Rattle.exact.proofs.Every.{every-more, some-fails}
 use Rattle.exact.proofs.are_profiles_exact.Statement.{statement}
@@ -38,20 +39,20 @@ loop-again : tie.Need-loop-again Inv-loop μ-loop
 loop-again c =
     let a = c .before .before .before .before .before .args in
     let l = c .before .before .before .loop in
-    (omega arith, every-more (λ k. profileExact (part (a .t .now) (6 + 10 * k) 10)) (l .i) (l .inv .1) (sym (c .before .is-profile-exact .ensures) ∙ c .if1 .taken))
+    (omega arith, every-more (λ k. profileExact (a .t .now) (entry profileRegion k)) (l .i) (l .inv .1) (sym (c .before .is-profile-exact .ensures) ∙ c .if1 .taken))
 
 returns : tie.Need-returns Inv-loop μ-loop
 returns c =
     let a = c .before .before .before .before .before .args in
     let l = c .before .before .before .loop in
-    sym (some-fails (λ k. profileExact (part (a .t .now) (6 + 10 * k) 10)) (l .i) (a .count) (omega arith) (sym (c .before .is-profile-exact .ensures) ∙ c .if1 .left))
+    sym (some-fails (λ k. profileExact (a .t .now) (entry profileRegion k)) (l .i) (a .count) (omega arith) (sym (c .before .is-profile-exact .ensures) ∙ c .if1 .left))
 
 returns-2 : tie.Need-returns-2 Inv-loop μ-loop
 returns-2 c =
     let a = c .before .before .before .args in
     let l = c .before .loop in
     let e : l .i ≡ a .count = omega arith in
-    sym (l .inv .1) ∙ ap (every (λ k. profileExact (part (a .t .now) (6 + 10 * k) 10))) e
+    sym (l .inv .1) ∙ ap (every (λ k. profileExact (a .t .now) (entry profileRegion k))) e
 
 pub are-profiles-exact-spec : {M : Type 1} → statement M
 are-profiles-exact-spec =

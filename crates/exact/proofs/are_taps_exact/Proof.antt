@@ -1,9 +1,10 @@
 -- `exact::are_taps_exact` meets its contract. The loop's invariant: every tap before i is exact. Assumes nothing.
-use Prim.Native.Nat.{_+_, _*_, _-_, _≤_}
+use Prim.Native.Nat.{_-_, _≤_}
 use mathlib.Core.Path.{_≡_, refl, sym, ap, _∙_}
 use mathlib.Core.Bool.{true}
 use native.Mathlib.Omega.{arith}
-use Rattle.octets.specs.Octets.{part}
+use Rattle.table.specs.Region.{entry}
+use Rattle.table.specs.Flat.{tapRegion}
 use Rattle.exact.specs.Exact.{every, tapExact, tapsExact}
 use Rattle.exact.proofs.Every.{every-more, some-fails}
 use Rattle.exact.proofs.are_taps_exact.Statement.{statement}
@@ -38,20 +39,20 @@ loop-again : tie.Need-loop-again Inv-loop μ-loop
 loop-again c =
     let a = c .before .before .before .before .before .args in
     let l = c .before .before .before .loop in
-    (omega arith, every-more (λ k. tapExact (part (a .t .now) (86 + 5 * k) 5)) (l .i) (l .inv .1) (sym (c .before .is-tap-exact .ensures) ∙ c .if1 .taken))
+    (omega arith, every-more (λ k. tapExact (a .t .now) (entry tapRegion k)) (l .i) (l .inv .1) (sym (c .before .is-tap-exact .ensures) ∙ c .if1 .taken))
 
 returns : tie.Need-returns Inv-loop μ-loop
 returns c =
     let a = c .before .before .before .before .before .args in
     let l = c .before .before .before .loop in
-    sym (some-fails (λ k. tapExact (part (a .t .now) (86 + 5 * k) 5)) (l .i) (a .count) (omega arith) (sym (c .before .is-tap-exact .ensures) ∙ c .if1 .left))
+    sym (some-fails (λ k. tapExact (a .t .now) (entry tapRegion k)) (l .i) (a .count) (omega arith) (sym (c .before .is-tap-exact .ensures) ∙ c .if1 .left))
 
 returns-2 : tie.Need-returns-2 Inv-loop μ-loop
 returns-2 c =
     let a = c .before .before .before .args in
     let l = c .before .loop in
     let e : l .i ≡ a .count = omega arith in
-    sym (l .inv .1) ∙ ap (every (λ k. tapExact (part (a .t .now) (86 + 5 * k) 5))) e
+    sym (l .inv .1) ∙ ap (every (λ k. tapExact (a .t .now) (entry tapRegion k))) e
 
 pub are-taps-exact-spec : {M : Type 1} → statement M
 are-taps-exact-spec =

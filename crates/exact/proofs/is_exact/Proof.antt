@@ -1,26 +1,21 @@
 -- `exact::is_exact` meets its contract. Assumes nothing.
+use Prim.Native.Nat.{ℕ, min}
 use mathlib.Core.Path.{ap, ap₂, _∙_}
 use mathlib.Core.Bool.{Bool, _&&_}
-use native.Mathlib.Omega.{arith}
 use borrow.Author.Needs.{needs}
+use Rattle.table.specs.Flat.{profileRegion, tapRegion}
 use Rattle.exact.specs.Exact.{exact, profilesExact, tapsExact}
 use Rattle.exact.proofs.is_exact.Statement.{statement}
 use Rattle.exact.proofs.is_exact.Tie as tie
 
-shared-slice-read-least : tie.Need-shared-slice-read-least
-shared-slice-read-least c = search needs
-
-cast-least : tie.Need-cast-least
-cast-least c = omega (arith, c .shared-slice-known2 .given 2)
+number-at-requires : tie.Need-number-at-requires
+number-at-requires c κs = search needs
 
 least-requires : tie.Need-least-requires
 least-requires c κs = search needs
 
-shared-slice-read-least-2 : tie.Need-shared-slice-read-least-2
-shared-slice-read-least-2 c = search needs
-
-cast-least-2 : tie.Need-cast-least-2
-cast-least-2 c = omega (arith, c .shared-slice-known3 .given 3)
+number-at-requires-2 : tie.Need-number-at-requires-2
+number-at-requires-2 c κs = search needs
 
 least-requires-2 : tie.Need-least-requires-2
 least-requires-2 c κs = search needs
@@ -37,20 +32,21 @@ both-requires c κs = search needs
 returns : tie.Need-returns
 unfolding exact
 returns c =
-    let t = c .before .before .before .before .before .before .before .before .args .t .now in
+    let q = c .before .before .before in
+    let p = q .before .before in
+    let t = p .before .before .before .args .t .now in
     c .both .ensures
-    ∙ ap₂ (λ (a b : Bool). a && b) (c .before .before .are-profiles-exact .ensures ∙ ap (profilesExact t) (c .before .before .before .before .before .least .ensures))
-    (c .before .are-taps-exact .ensures ∙ ap (tapsExact t) (c .before .before .before .least2 .ensures))
+    ∙ ap₂ (λ (a b : Bool). a && b)
+    (c .before .before .are-profiles-exact .ensures ∙ ap (profilesExact t) (p .least .ensures ∙ ap (λ (n : ℕ). min n (profileRegion .size)) (p .before .number-at .ensures .0)))
+    (c .before .are-taps-exact .ensures ∙ ap (tapsExact t) (q .least2 .ensures ∙ ap (λ (n : ℕ). min n (tapRegion .size)) (q .before .number-at2 .ensures .0)))
 
 pub is-exact-spec : {M : Type 1} → statement M
 is-exact-spec =
     tie.close
     (tie.spec
-    shared-slice-read-least
-    cast-least
+    number-at-requires
     least-requires
-    shared-slice-read-least-2
-    cast-least-2
+    number-at-requires-2
     least-requires-2
     are-profiles-exact-requires
     are-taps-exact-requires

@@ -1,11 +1,7 @@
 -- `exact::is_profile_exact` meets its contract, sort by sort. Assumes nothing.
-use Prim.Native.Nat.{ℕ}
-use mathlib.Core.Path.{sym, ap, _∙_}
-use native.Mathlib.Omega.{arith}
-use lib.Dec.{eqb}
+use mathlib.Core.Path.{_∙_}
 use borrow.Author.Needs.{needs}
-use Rattle.octets.specs.Octets.{part}
-use Rattle.exact.proofs.Sorts.{profile-biop, profile-lite, profile-other, part-first}
+use Rattle.exact.proofs.Sorts.{profile-biop, profile-lite, profile-other}
 use Rattle.exact.proofs.is_profile_exact.Statement.{statement}
 use Rattle.exact.proofs.is_profile_exact.Tie as tie
 
@@ -19,23 +15,16 @@ is-location-exact-requires : tie.Need-is-location-exact-requires
 is-location-exact-requires c κs = search needs
 
 returns : tie.Need-returns
-returns c =
-    let a = c .before .before .before .before .args in
-    c .is-location-exact .ensures ∙ profile-biop (part (a .t .now) (a .at) 10) (sym (part-first (a .t .now) (a .at) 10 (omega arith)) ∙ c .before .if1 .taken)
+returns c = c .is-location-exact .ensures ∙ profile-biop _ _ (c .before .if1 .taken)
 
 is-address-exact-requires : tie.Need-is-address-exact-requires
 is-address-exact-requires c κs = search needs
 
 returns-2 : tie.Need-returns-2
-returns-2 c =
-    let a = c .before .before .before .before .before .args in
-    c .is-address-exact .ensures ∙ profile-lite (part (a .t .now) (a .at) 10) (sym (part-first (a .t .now) (a .at) 10 (omega arith)) ∙ c .before .if2 .taken)
+returns-2 c = c .is-address-exact .ensures ∙ profile-lite _ _ (c .before .if2 .taken)
 
 returns-3 : tie.Need-returns-3
-returns-3 c =
-    let a = c .before .before .before .before .args in
-    let first = part-first (a .t .now) (a .at) 10 (omega arith) in
-    ap (λ (x : ℕ). eqb x 0) first ∙ profile-other (part (a .t .now) (a .at) 10) (λ e. c .before .if1 .left (first ∙ e)) (λ e. c .if2 .left (first ∙ e))
+returns-3 c = profile-other _ _ (c .before .if1 .left) (c .if2 .left)
 
 pub is-profile-exact-spec : {M : Type 1} → statement M
 is-profile-exact-spec =

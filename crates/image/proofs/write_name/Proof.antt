@@ -4,7 +4,7 @@ use mathlib.Core.Path.{refl}
 use native.Mathlib.Omega.{arith}
 use Rattle.octets.proofs.Put.{same}
 use Rattle.reference.specs.Contents.{shown}
-use Rattle.reference.specs.Layout.{layoutName, layoutNamed}
+use Rattle.reference.specs.Layout.{layoutNamed}
 use Rattle.image.proofs.Laid.{onto}
 use Rattle.image.proofs.write_name.Statement.{statement}
 use Rattle.image.proofs.write_name.Tie as tie

@@ -2,6 +2,7 @@
 use mathlib.Core.Path.{sym, _∙_}
 use Rattle.ior_c.proofs.Calls.{lengths, not-askable, askable-by-table}
 use borrow.Author.Needs.{needs}
+use Rattle.table.specs.Flat.{tableSize}
 use Rattle.ior_c.proofs.can_ask.Statement.{statement}
 use Rattle.ior_c.proofs.can_ask.Tie as tie
 
@@ -9,7 +10,7 @@ is-sized-requires : tie.Need-is-sized-requires
 is-sized-requires c κs = search needs
 
 is-exact-requires : tie.Need-is-exact-requires
-is-exact-requires c κs = lengths 490 _ _ (sym (c .before .is-sized .ensures) ∙ c .if1 .taken) .0
+is-exact-requires c κs = lengths tableSize _ _ (sym (c .before .is-sized .ensures) ∙ c .if1 .taken) .0
 
 returns : tie.Need-returns
 returns c = c .is-exact .ensures ∙ sym (askable-by-table _ _ (sym (c .before .before .is-sized .ensures) ∙ c .before .if1 .taken))

@@ -2,29 +2,24 @@
 use borrow.Author.Needs.{needs}
 use Rattle.reference.specs.declared.Refusal.{Refusal}
 use Rattle.reference.specs.declared.Answer.the-variants.{Refused}
-use Rattle.questions.proofs.Cases.{ahead}
-use Rattle.table.specs.Flat.{tablesFrom}
+use Rattle.table.specs.Flat.{tablesFrom, profileRegion, profilesUsed}
 use Rattle.reference.specs.Questions.{firstFrom, firstBiop}
-use lib.ListN.{getD}
 use Prim.Native.Nat.{_≤_, _-_}
 use Rattle.ior_c.specs.Said.{firstSaid}
-use Rattle.ior_c.proofs.Answers.{profilesIn, too-many, starts, ends, found, passed}
+use Rattle.ior_c.proofs.Answers.{left, too-many, starts, ends, found, passed}
 use native.Mathlib.Omega.{arith}
-use mathlib.Core.Path.{_≡_, sym, ap, _∙_, refl}
+use mathlib.Core.Path.{_≡_, sym, ap, _∙_}
 use Rattle.ior_c.proofs.first_of.Statement.{statement}
 use Rattle.ior_c.proofs.first_of.Tie as tie
 
 abbrev Inv-loop : tie.InvT-loop
-Inv-loop table used i₀ i = (i ≤ used) × (used ≡ getD table 2 0) × (used ≤ 8) × (firstBiop (tablesFrom table) ≡ firstFrom i (ahead (profilesIn table) (getD table 2 0) i))
+Inv-loop table used i₀ i = (i ≤ used) × (used ≡ profilesUsed table) × (used ≤ profileRegion .size) × (firstBiop (tablesFrom table) ≡ firstFrom i (left table i))
 
 abbrev μ-loop : tie.MeasureT-loop
 μ-loop table used i₀ i = used - i
 
-shared-slice-read-used : tie.Need-shared-slice-read-used Inv-loop μ-loop
-shared-slice-read-used c = omega arith
-
-cast-used : tie.Need-cast-used Inv-loop μ-loop
-cast-used c = omega (arith, c .shared-slice-known2 .given 2)
+number-at-requires : tie.Need-number-at-requires Inv-loop μ-loop
+number-at-requires c κs = omega arith
 
 wrong-requires : tie.Need-wrong-requires Inv-loop μ-loop
 wrong-requires c κs = search needs
@@ -32,12 +27,12 @@ wrong-requires c κs = search needs
 returns : tie.Need-returns Inv-loop μ-loop
 returns c =
     let t = c .before .before .before .before .args .table .now in
-    ap (λ (x : Refusal). Refused x) (c .wrong .ensures) ∙ sym (ap firstSaid (too-many t (c .before .if1 .taken)))
+    ap (λ (x : Refusal). Refused x) (c .wrong .ensures) ∙ sym (ap firstSaid (too-many t (omega arith)))
 
 loop-holds : tie.Need-loop-holds Inv-loop μ-loop
 loop-holds c =
     let t = c .before .before .before .args .table .now in
-    (omega arith, refl, c .if1 .left, starts t (c .if1 .left))
+    (omega arith, c .before .number-at .ensures .0, c .if1 .left, starts t (omega arith))
 
 sort-at-requires : tie.Need-sort-at-requires Inv-loop μ-loop
 sort-at-requires c κs = search needs
@@ -72,8 +67,7 @@ first-of-spec =
     (tie.spec
     Inv-loop
     μ-loop
-    shared-slice-read-used
-    cast-used
+    number-at-requires
     wrong-requires
     returns
     loop-holds

@@ -5,6 +5,7 @@ use mathlib.Core.Path.{_≡_, sym, ap, _∙_}
 use mathlib.Core.Bool.{true}
 use lib.ListN.{length}
 use Rattle.reference.specs.declared.Answer.the-variants.{Count}
+use Rattle.table.specs.Flat.{tableSize}
 use Rattle.ior_c.specs.Said.{sized}
 use Rattle.quick.proofs.Whole.{found}
 use Rattle.ior_c.proofs.Calls.{not-told, answer-told, lengths, not-askable, askable-by-table, measured-passed}
@@ -12,7 +13,7 @@ use Rattle.ior_c.proofs.ior_length.Statement.{statement}
 use Rattle.ior_c.proofs.ior_length.Tie as tie
 
 -- both arrays have their lengths
-is-asked : (i : tie.Else1) → let a = i .before .before .before .before .before .args in sized 490 (length (a .table .now)) (length (a .answer .now)) ≡ true
+is-asked : (i : tie.Else1) → let a = i .before .before .before .before .before .args in sized tableSize (length (a .table .now)) (length (a .answer .now)) ≡ true
 is-asked i = sym (i .before .is-sized .ensures) ∙ not-false (i .before .is-sized .result) (i .if1 .left)
 
 is-sized-requires : tie.Need-is-sized-requires
@@ -22,13 +23,13 @@ returns : tie.Need-returns
 returns c = not-told (not-askable _ _ (sym (c .before .is-sized .ensures) ∙ not-true (c .before .is-sized .result) (c .if1 .taken)))
 
 quick-length-requires : tie.Need-quick-length-requires
-quick-length-requires c κs = lengths 490 _ _ (is-asked c) .0
+quick-length-requires c κs = lengths tableSize _ _ (is-asked c) .0
 
 enum-known-total : tie.Need-enum-known-total
 enum-known-total c = search needs
 
 put-answer-requires : tie.Need-put-answer-requires
-put-answer-requires c κs = lengths 490 _ _ (is-asked (c .before .before .before .before .before)) .1
+put-answer-requires c κs = lengths tableSize _ _ (is-asked (c .before .before .before .before .before)) .1
 
 enum-told : tie.Need-enum-told
 enum-told c = search needs

@@ -4,6 +4,7 @@ use borrow.Author.Tests.{not-true, not-false}
 use mathlib.Core.Path.{_≡_, sym, _∙_}
 use mathlib.Core.Bool.{true}
 use lib.ListN.{length}
+use Rattle.table.specs.Flat.{tableSize}
 use Rattle.ior_c.specs.Said.{sized}
 use Rattle.quick.proofs.Whole.{found}
 use Rattle.ior_c.proofs.Calls.{given, not-given, lengths, not-askable, askable-by-table}
@@ -11,7 +12,7 @@ use Rattle.ior_c.proofs.ior_write.Statement.{statement}
 use Rattle.ior_c.proofs.ior_write.Tie as tie
 
 -- both arrays have their lengths
-is-asked : (i : tie.Else1) → let a = i .before .before .before .before .before .before .args in sized 490 (length (a .table .now)) (length (a .answer .now)) ≡ true
+is-asked : (i : tie.Else1) → let a = i .before .before .before .before .before .before .args in sized tableSize (length (a .table .now)) (length (a .answer .now)) ≡ true
 is-asked i = sym (i .before .is-sized .ensures) ∙ not-false (i .before .is-sized .result) (i .if1 .left)
 
 is-sized-requires : tie.Need-is-sized-requires
@@ -21,7 +22,7 @@ returns : tie.Need-returns
 returns c = not-given (not-askable _ _ (sym (c .before .is-sized .ensures) ∙ not-true (c .before .is-sized .result) (c .if1 .taken)))
 
 quick-length-requires : tie.Need-quick-length-requires
-quick-length-requires c κs = lengths 490 _ _ (is-asked c) .0
+quick-length-requires c κs = lengths tableSize _ _ (is-asked c) .0
 
 enum-known-total : tie.Need-enum-known-total
 enum-known-total c = search needs
@@ -31,10 +32,10 @@ write-measured-requires c κs =
     let k = c .before .before in
     let q = k .before .before in
     let (fits, passes, size) = found _ _ _ (sym (k .total .given .1) ∙ q .quick-length .ensures) in
-    (lengths 490 _ _ (is-asked (q .before)) .0, passes, size)
+    (lengths tableSize _ _ (is-asked (q .before)) .0, passes, size)
 
 put-answer-requires : tie.Need-put-answer-requires
-put-answer-requires c κs = lengths 490 _ _ (is-asked (c .before .before .before .before .before .before .before .before .before)) .1
+put-answer-requires c κs = lengths tableSize _ _ (is-asked (c .before .before .before .before .before .before .before .before .before)) .1
 
 enum-told : tie.Need-enum-told
 enum-told c = search needs

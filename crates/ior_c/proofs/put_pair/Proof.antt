@@ -2,7 +2,7 @@
 use mathlib.Core.Path.{sym, ap, _∙_}
 use native.Mathlib.Omega.{arith}
 use Rattle.octets.proofs.Splice.{one, more}
-use Rattle.ior_c.proofs.Answers.{covered, found}
+use Rattle.ior_c.proofs.Answers.{covered}
 use Rattle.ior_c.specs.Said.{tapResult, tapPair}
 use borrow.Author.Needs.{needs}
 use Rattle.ior_c.proofs.put_pair.Statement.{statement}

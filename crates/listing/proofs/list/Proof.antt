@@ -2,6 +2,7 @@
 use Prim.Native.Nat.{ℕ}
 use lib.ListN.{length-replicate}
 use borrow.Author.Needs.{needs}
+use Rattle.table.specs.Flat.{tableSize}
 use Rattle.listing.proofs.list.Statement.{statement}
 use Rattle.listing.proofs.list.Tie as tie
 
@@ -21,7 +22,7 @@ slice-aggregate-list-blocks-3 : tie.Need-slice-aggregate-list-blocks-3
 slice-aggregate-list-blocks-3 c = search needs
 
 list-blocks-requires : tie.Need-list-blocks-requires
-list-blocks-requires c κs = (length-replicate {A = ℕ} 262144 0, length-replicate {A = ℕ} 490 0, length-replicate {A = ℕ} 65536 0)
+list-blocks-requires c κs = (length-replicate {A = ℕ} 262144 0, length-replicate {A = ℕ} tableSize 0, length-replicate {A = ℕ} 65536 0)
 
 returns-2 : tie.Need-returns-2
 returns-2 c = search needs

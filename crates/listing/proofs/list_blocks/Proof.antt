@@ -6,6 +6,7 @@ use native.Mathlib.Omega.{arith}
 use borrow.Author.Needs.{needs}
 use lib.ListN.{length}
 use lib.Seq.{length-take-le}
+use Rattle.table.specs.Flat.{Lent}
 use Rattle.listing.proofs.list_blocks.Statement.{statement}
 use Rattle.listing.proofs.list_blocks.Tie as tie
 
@@ -15,7 +16,7 @@ held false e = let z : _≡_ {A = ℕ} 0 1 = cc in absurd (omega arith)
 
 abbrev Inv-loop : tie.InvT-loop
 Inv-loop fd room₀ table₀ page₀ came₀ from₀ to₀ seen₀ room table page came from to seen =
-    (from ≤ to) × (to ≤ 262144) × (seen + to ≤ came + from) × (came ≤ 0x800000000003FFFF) × (length room ≡ 262144) × (length table ≡ 490) × (length page ≡ 65536)
+    (from ≤ to) × (to ≤ 262144) × (seen + to ≤ came + from) × (came ≤ 0x800000000003FFFF) × (length room ≡ 262144) × Lent table × (length page ≡ 65536)
 
 abbrev μ-loop : tie.MeasureT-loop
 μ-loop fd room₀ table₀ page₀ came₀ from₀ to₀ seen₀ room table page came from to seen = 262145 * (0x8000000000040000 - came) + (to - from)

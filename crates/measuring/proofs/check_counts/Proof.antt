@@ -8,11 +8,8 @@ use Rattle.measuring.proofs.Order.{too-many-profiles, table-by-table}
 use Rattle.measuring.proofs.check_counts.Statement.{statement}
 use Rattle.measuring.proofs.check_counts.Tie as tie
 
-shared-slice-read-if1 : tie.Need-shared-slice-read-if1
-shared-slice-read-if1 c = search needs
-
-cast-if1 : tie.Need-cast-if1
-cast-if1 c = omega (arith, c .shared-slice-known2 .given 2)
+number-at-requires : tie.Need-number-at-requires
+number-at-requires c κs = search needs
 
 wrong-requires : tie.Need-wrong-requires
 wrong-requires c κs = search needs
@@ -20,34 +17,25 @@ wrong-requires c κs = search needs
 returns : tie.Need-returns
 returns c =
     let a = c .before .before .before .before .args in
-    ap Refuse (c .wrong .ensures) ∙ sym (too-many-profiles (a .t .now) (c .before .if1 .taken))
+    ap Refuse (c .wrong .ensures) ∙ sym (too-many-profiles (a .t .now) (omega arith))
 
 sum-counts-requires : tie.Need-sum-counts-requires
 sum-counts-requires c κs = search needs
 
-shared-slice-read-check-used : tie.Need-shared-slice-read-check-used
-shared-slice-read-check-used c = search needs
-
-cast-check-used : tie.Need-cast-check-used
-cast-check-used c = omega (arith, c .shared-slice-known3 .given 3)
+number-at-requires-2 : tie.Need-number-at-requires-2
+number-at-requires-2 c κs = search needs
 
 check-used-requires : tie.Need-check-used-requires
 check-used-requires c κs = search needs
 
-shared-slice-read-check-used-2 : tie.Need-shared-slice-read-check-used-2
-shared-slice-read-check-used-2 c = search needs
-
-cast-check-used-2 : tie.Need-cast-check-used-2
-cast-check-used-2 c = omega (arith, c .shared-slice-known4 .given 4)
+number-at-requires-3 : tie.Need-number-at-requires-3
+number-at-requires-3 c κs = search needs
 
 check-used-requires-2 : tie.Need-check-used-requires-2
 check-used-requires-2 c κs = search needs
 
-shared-slice-read-check-used-3 : tie.Need-shared-slice-read-check-used-3
-shared-slice-read-check-used-3 c = search needs
-
-cast-check-used-3 : tie.Need-cast-check-used-3
-cast-check-used-3 c = omega (arith, c .shared-slice-known5 .given 5)
+number-at-requires-4 : tie.Need-number-at-requires-4
+number-at-requires-4 c κs = search needs
 
 check-used-requires-3 : tie.Need-check-used-requires-3
 check-used-requires-3 c κs = search needs
@@ -66,25 +54,21 @@ returns-2 c =
     let few = taps .before .before .before in
     let t = few .before .before .before .args .t .now in
     let behind = c .before .then .ensures ∙ ap₂ both (names .check-used2 .ensures) (c .before .before .check-used3 .ensures) in
-    c .then2 .ensures ∙ ap₂ both (taps .check-used .ensures) behind ∙ table-by-table t (few .if1 .left) (sums .result) (sums .ensures)
+    c .then2 .ensures ∙ ap₂ both (taps .check-used .ensures) behind ∙ table-by-table t (omega (arith, few .if1 .left, few .before .number-at .ensures .0)) (sums .result) (sums .ensures) (taps .before .number-at2 .ensures .0) (names .before .number-at3 .ensures .0) (c .before .before .before .number-at4 .ensures .0)
 
 pub check-counts-spec : {M : Type 1} → statement M
 check-counts-spec =
     tie.close
     (tie.spec
-    shared-slice-read-if1
-    cast-if1
+    number-at-requires
     wrong-requires
     returns
     sum-counts-requires
-    shared-slice-read-check-used
-    cast-check-used
+    number-at-requires-2
     check-used-requires
-    shared-slice-read-check-used-2
-    cast-check-used-2
+    number-at-requires-3
     check-used-requires-2
-    shared-slice-read-check-used-3
-    cast-check-used-3
+    number-at-requires-4
     check-used-requires-3
     then-requires
     then-requires-2

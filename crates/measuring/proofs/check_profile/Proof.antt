@@ -1,6 +1,6 @@
 -- `measuring::check_profile` meets its contract. By the sort. Assumes nothing.
 use borrow.Author.Needs.{needs}
-use Prim.Native.Nat.{ℕ, _+_, _*_}
+use Prim.Native.Nat.{ℕ, _+_}
 use mathlib.Core.Path.{sym, ap, ap₂, _∙_}
 use Rattle.octets.specs.Octets.{part}
 use Rattle.reference.specs.Checks.{both, each}
@@ -29,7 +29,7 @@ returns c =
     let t = a .t .now in
     c .before .before .check-extras .ensures
     ∙ ap (λ (k : ℕ). each extraShort (part (usedIn t .extras) (a .extra) k)) x
-    ∙ short-other (usedIn t .taps) (usedIn t .extras) (a .tap) (a .extra) (part t (6 + 10 * a .i) 10) (λ e. c .if1 .taken (sort ∙ e))
+    ∙ short-other (usedIn t .taps) (usedIn t .extras) (a .tap) (a .extra) _ _ (λ e. c .if1 .taken (sort ∙ e))
 
 profile-view-requires : tie.Need-profile-view-requires
 profile-view-requires c κs = search needs
@@ -78,7 +78,7 @@ returns-2 c =
     let binder = c .before .before .check-short2 .ensures ∙ ap (λ (n : ℕ). shortCheck (1 + n)) taps in
     c .then2 .ensures
     ∙ ap₂ both location (c .before .then .ensures ∙ ap₂ both binder extras)
-    ∙ short-biop (u .taps) (u .extras) (a .tap) (a .extra) (part t (6 + 10 * a .i) 10) sort
+    ∙ short-biop (u .taps) (u .extras) (a .tap) (a .extra) _ _ sort
 
 pub check-profile-spec : {M : Type 1} → statement M
 check-profile-spec =

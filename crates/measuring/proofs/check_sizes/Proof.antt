@@ -1,30 +1,27 @@
 -- `measuring::check_sizes` meets its contract. The profiles that have passed and those that are left make the whole. Assumes nothing.
 use borrow.Author.Needs.{needs}
 use Prim.Native.Nat.{_-_, _*_, _≤_}
-use mathlib.Core.Path.{_≡_, refl, sym, _∙_}
+use mathlib.Core.Path.{_≡_, sym, _∙_}
 use native.Mathlib.Omega.{arith}
-use lib.ListN.{getD}
+use Rattle.table.specs.Flat.{profileRegion, profilesUsed}
 use Rattle.measuring.proofs.Tables.{agreeing}
 use Rattle.measuring.proofs.Short.{Passed, passed-begin, passed-end, passed-turn, passed-stop, passed-within}
 use Rattle.measuring.proofs.check_sizes.Statement.{statement}
 use Rattle.measuring.proofs.check_sizes.Tie as tie
 
 abbrev Inv-loop : tie.InvT-loop
-Inv-loop t used tap₀ extra₀ i₀ tap extra i = (i ≤ used) × (used ≡ getD t 2 0) × (used ≤ 8) × (tap ≤ i * 0x100000000) × (extra ≤ i * 0x100000000) × Passed t tap extra i
+Inv-loop t used tap₀ extra₀ i₀ tap extra i = (i ≤ used) × (used ≡ profilesUsed t) × (used ≤ profileRegion .size) × (tap ≤ i * 0x100000000) × (extra ≤ i * 0x100000000) × Passed t tap extra i
 
 abbrev μ-loop : tie.MeasureT-loop
 μ-loop t used tap₀ extra₀ i₀ tap extra i = used - i
 
-shared-slice-read-used : tie.Need-shared-slice-read-used Inv-loop μ-loop
-shared-slice-read-used c = search needs
-
-cast-used : tie.Need-cast-used Inv-loop μ-loop
-cast-used c = omega (arith, c .shared-slice-known2 .given 2)
+number-at-requires : tie.Need-number-at-requires Inv-loop μ-loop
+number-at-requires c κs = search needs
 
 loop-holds : tie.Need-loop-holds Inv-loop μ-loop
 loop-holds c =
     let s = c .before .before in
-    (omega arith, refl, agreeing (s .args .t .now) (s .pre .1) .profiles, omega arith, omega arith, passed-begin)
+    (omega arith, c .number-at .ensures .0, omega (arith, agreeing (s .args .t .now) (s .pre .1) .profiles), omega arith, omega arith, passed-begin)
 
 check-profile-requires : tie.Need-check-profile-requires Inv-loop μ-loop
 check-profile-requires c κs =
@@ -91,8 +88,7 @@ check-sizes-spec =
     (tie.spec
     Inv-loop
     μ-loop
-    shared-slice-read-used
-    cast-used
+    number-at-requires
     loop-holds
     check-profile-requires
     enum-known-found

@@ -1,7 +1,6 @@
 -- `measuring::length_over` meets its contract. 6, 8, 9 and 10 in their order. Assumes nothing.
 use borrow.Author.Needs.{needs}
 use mathlib.Core.Path.{sym, ap, _∙_}
-use lib.ListN.{length}
 use Rattle.reference.specs.declared.Answer.the-variants.{Refused}
 use Rattle.table.specs.Flat.{tablesFrom}
 use Rattle.measuring.proofs.Order.{stop-source, stop-counts, stop-views, stop-image, all-pass}

@@ -3,11 +3,9 @@ use borrow.Author.Needs.{needs}
 use Prim.Native.Nat.{ℕ, _+_, _-_, _*_, _≤_}
 use mathlib.Core.Path.{_≡_, refl, sym, ap₂, _∙_}
 use native.Mathlib.Omega.{arith}
-use lib.ListN.{getD}
 use Rattle.reference.specs.Writer.{entryViews}
 use Rattle.reference.specs.declared.View.{View}
-use Rattle.table.specs.Flat.{bodyOfTable}
-use Rattle.table.proofs.Entries.{profileOfTable}
+use Rattle.table.specs.Flat.{bodyOfTable, profilesUsed, profileOfTable}
 use Rattle.measuring.specs.ByTable.{entrySize, usedIn}
 use Rattle.measuring.proofs.Going.{Measuring, measure-begin, measure-turn, measure-stop, measure-end}
 use Rattle.measuring.proofs.Tables.{profiles-listed}
@@ -17,19 +15,16 @@ use Rattle.measuring.proofs.measure_profiles.Tie as tie
 
 abbrev Inv-loop : tie.InvT-loop
 Inv-loop t n used total₀ i₀ total i =
-    (i ≤ used) × (used ≡ getD t 2 0) × (total ≤ i * 0x300000000) × Measuring (entryViews n) entrySize (usedIn t .profiles) total i
+    (i ≤ used) × (used ≡ profilesUsed t) × (total ≤ i * 0x300000000) × Measuring (entryViews n) entrySize (usedIn t .profiles) total i
 
 abbrev μ-loop : tie.MeasureT-loop
 μ-loop t n used total₀ i₀ total i = used - i
 
-shared-slice-read-used : tie.Need-shared-slice-read-used Inv-loop μ-loop
-shared-slice-read-used c = search needs
-
-cast-used : tie.Need-cast-used Inv-loop μ-loop
-cast-used c = omega (arith, c .shared-slice-known2 .given 2)
+number-at-requires : tie.Need-number-at-requires Inv-loop μ-loop
+number-at-requires c κs = search needs
 
 loop-holds : tie.Need-loop-holds Inv-loop μ-loop
-loop-holds c = (omega arith, refl, omega arith, measure-begin)
+loop-holds c = (omega arith, c .number-at .ensures .0, omega arith, measure-begin)
 
 profile-view-requires : tie.Need-profile-view-requires Inv-loop μ-loop
 profile-view-requires c κs = (omega arith, omega arith)
@@ -98,8 +93,7 @@ measure-profiles-spec =
     (tie.spec
     Inv-loop
     μ-loop
-    shared-slice-read-used
-    cast-used
+    number-at-requires
     loop-holds
     profile-view-requires
     check-view-requires

@@ -3,9 +3,8 @@ use borrow.Author.Needs.{needs}
 use Prim.Native.Nat.{_-_, _*_, _≤_}
 use mathlib.Core.Path.{_≡_, refl}
 use native.Mathlib.Omega.{arith}
-use lib.ListN.{getD}
 use Rattle.reference.specs.Used.{tapsIn, namesIn, extrasIn}
-use Rattle.table.proofs.Entries.{profileOfTable}
+use Rattle.table.specs.Flat.{profilesUsed, profileOfTable}
 use Rattle.measuring.specs.ByTable.{usedIn}
 use Rattle.measuring.proofs.Going.{Summing, sum-begin, sum-turn, sum-end}
 use Rattle.measuring.proofs.Tables.{profiles-listed}
@@ -14,20 +13,17 @@ use Rattle.measuring.proofs.sum_counts.Tie as tie
 
 abbrev Inv-loop : tie.InvT-loop
 Inv-loop t used taps₀ names₀ extras₀ i₀ taps names extras i =
-    (i ≤ used) × (used ≡ getD t 2 0) × (taps ≤ i * 0x100000000) × (names ≤ i * 0x100000000) × (extras ≤ i * 0x100000000)
+    (i ≤ used) × (used ≡ profilesUsed t) × (taps ≤ i * 0x100000000) × (names ≤ i * 0x100000000) × (extras ≤ i * 0x100000000)
     × Summing (λ p. tapsIn (p .body)) (usedIn t .profiles) taps i × Summing (λ p. namesIn (p .body)) (usedIn t .profiles) names i × Summing (λ p. extrasIn (p .body)) (usedIn t .profiles) extras i
 
 abbrev μ-loop : tie.MeasureT-loop
 μ-loop t used taps₀ names₀ extras₀ i₀ taps names extras i = used - i
 
-shared-slice-read-used : tie.Need-shared-slice-read-used Inv-loop μ-loop
-shared-slice-read-used c = search needs
-
-cast-used : tie.Need-cast-used Inv-loop μ-loop
-cast-used c = omega (arith, c .shared-slice-known2 .given 2)
+number-at-requires : tie.Need-number-at-requires Inv-loop μ-loop
+number-at-requires c κs = search needs
 
 loop-holds : tie.Need-loop-holds Inv-loop μ-loop
-loop-holds c = (omega arith, refl, omega arith, omega arith, omega arith, sum-begin, sum-begin, sum-begin)
+loop-holds c = (omega arith, c .number-at .ensures .0, omega arith, omega arith, omega arith, sum-begin, sum-begin, sum-begin)
 
 taps-at-requires : tie.Need-taps-at-requires Inv-loop μ-loop
 taps-at-requires c κs = (omega arith, omega arith)
@@ -86,8 +82,7 @@ sum-counts-spec =
     (tie.spec
     Inv-loop
     μ-loop
-    shared-slice-read-used
-    cast-used
+    number-at-requires
     loop-holds
     taps-at-requires
     add-taps

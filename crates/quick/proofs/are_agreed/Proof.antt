@@ -3,8 +3,8 @@ use borrow.Author.Needs.{needs}
 use mathlib.Core.Path.{sym, ap, ap₂, _∙_}
 use mathlib.Core.Bool.{Bool, _&&_}
 use native.Mathlib.Omega.{arith}
-use lib.ListN.{getD}
 use borrow.Author.Tests.{not-true, not-false}
+use Rattle.table.specs.Flat.{nameRegion, extraRegion, namesUsed, extrasUsed}
 use Rattle.quick.specs.Marks.{agreed}
 use Rattle.quick.proofs.are_agreed.Statement.{statement}
 use Rattle.quick.proofs.are_agreed.Tie as tie
@@ -23,7 +23,7 @@ returns c =
     let k = c .before in
     let a = k .before .before .before .args in
     let taps = sym (k .is-agreed .ensures) ∙ not-true (k .is-agreed .result) (c .if1 .taken) in
-    sym (ap (λ (b : Bool). b && agreed (getD (a .t .now) 4 0) 32 (a .names) && agreed (getD (a .t .now) 5 0) 32 (a .extras)) taps)
+    sym (ap (λ (b : Bool). b && agreed (namesUsed (a .t .now)) (nameRegion .size) (a .names) && agreed (extrasUsed (a .t .now)) (extraRegion .size) (a .extras)) taps)
 
 shared-slice-read-is-agreed-2 : tie.Need-shared-slice-read-is-agreed-2
 shared-slice-read-is-agreed-2 c = search needs
@@ -41,7 +41,7 @@ returns-2 c =
     let a = i .before .before .before .before .args in
     let taps = sym (i .before .is-agreed .ensures) ∙ not-false (i .before .is-agreed .result) (i .if1 .left) in
     let names = sym (k .is-agreed2 .ensures) ∙ not-true (k .is-agreed2 .result) (c .if2 .taken) in
-    sym (ap₂ (λ (b d : Bool). b && d && agreed (getD (a .t .now) 5 0) 32 (a .extras)) taps names)
+    sym (ap₂ (λ (b d : Bool). b && d && agreed (extrasUsed (a .t .now)) (extraRegion .size) (a .extras)) taps names)
 
 shared-slice-read-is-agreed-3 : tie.Need-shared-slice-read-is-agreed-3
 shared-slice-read-is-agreed-3 c = search needs
@@ -59,7 +59,7 @@ returns-3 c =
     let a = i .before .before .before .before .args in
     let taps = sym (i .before .is-agreed .ensures) ∙ not-false (i .before .is-agreed .result) (i .if1 .left) in
     let names = sym (k .is-agreed2 .ensures) ∙ not-false (k .is-agreed2 .result) (c .before .before .if2 .left) in
-    c .is-agreed3 .ensures ∙ sym (ap₂ (λ (b d : Bool). b && d && agreed (getD (a .t .now) 5 0) 32 (a .extras)) taps names)
+    c .is-agreed3 .ensures ∙ sym (ap₂ (λ (b d : Bool). b && d && agreed (extrasUsed (a .t .now)) (extraRegion .size) (a .extras)) taps names)
 
 pub are-agreed-spec : {M : Type 1} → statement M
 are-agreed-spec =

@@ -1,13 +1,11 @@
 -- `quick::find_profiles` meets its contract. What is summed and or'ed is that of the profiles before i. Assumes nothing.
 use borrow.Author.Needs.{needs}
-use Prim.Native.Nat.{_+_, _-_, _*_, _≤_}
+use Prim.Native.Nat.{_-_, _*_, _≤_}
 use mathlib.Core.Path.{_≡_, refl, sym, ap, _∙_}
 use native.Mathlib.Omega.{arith}
-use lib.ListN.{getD}
-use Rattle.octets.specs.Octets.{part}
 use Rattle.reference.specs.Used.{tapsIn, namesIn, extrasIn, bodyView}
-use Rattle.table.specs.Flat.{bodyOfTable}
-use Rattle.table.proofs.Entries.{profileOfTable}
+use Rattle.table.specs.Flat.{bodyOfTable, profileRegion, profilesUsed, profileOfTable}
+use Rattle.table.specs.Region.{entry}
 use Rattle.exact.specs.Exact.{every, profileExact, profilesExact}
 use Rattle.exact.proofs.Every.{every-next}
 use Rattle.measuring.specs.ByTable.{entrySize, usedIn}
@@ -28,11 +26,8 @@ Inv-loop t n used taps₀ names₀ extras₀ octets₀ fields₀ ends₀ i₀ ta
 abbrev μ-loop : tie.MeasureT-loop
 μ-loop t n used taps₀ names₀ extras₀ octets₀ fields₀ ends₀ i₀ taps names extras octets fields ends i = used - i
 
-shared-slice-read-used : tie.Need-shared-slice-read-used Inv-loop μ-loop
-shared-slice-read-used c = search needs
-
-cast-used : tie.Need-cast-used Inv-loop μ-loop
-cast-used c = omega (arith, c .shared-slice-known2 .given 2)
+number-at-requires : tie.Need-number-at-requires Inv-loop μ-loop
+number-at-requires c κs = search needs
 
 loop-holds : tie.Need-loop-holds Inv-loop μ-loop
 unfolding every
@@ -85,7 +80,7 @@ loop-again c =
       sum-turn (v .6) ps (omega arith) here refl _ (one .names),
       sum-turn (v .7) ps (omega arith) here refl _ (one .extras),
       sum-turn (v .8) ps (omega arith) here refl _ (one .octets),
-      or-more (l .loop .fields) (k .profile-share .result .fields) (v .9) (one .fields) ∙ sym (every-next (λ j. profileExact (part t (6 + 10 * j) 10)) i),
+      or-more (l .loop .fields) (k .profile-share .result .fields) (v .9) (one .fields) ∙ sym (every-next (λ j. profileExact t (entry profileRegion j)) i),
       or-more (l .loop .ends) (k .profile-share .result .ends) (v .10) (one .ends) ∙ sym (every-next (λ j. within (a .n) (bodyView (bodyOfTable t j))) i),
     )
 
@@ -96,7 +91,7 @@ returns c =
     let a = l .before .before .before .args in
     let t = a .t .now in
     let ps = profiles-listed t (omega arith) in
-    let e : l .loop .i ≡ getD t 2 0 = omega arith in
+    let e : l .loop .i ≡ profilesUsed t = omega arith in
     record {
       taps = sum-end (v .5) ps (omega arith);
       names = sum-end (v .6) ps (omega arith);
@@ -113,8 +108,7 @@ find-profiles-spec =
     (tie.spec
     Inv-loop
     μ-loop
-    shared-slice-read-used
-    cast-used
+    number-at-requires
     loop-holds
     mul-profile-share
     add-profile-share

@@ -1,12 +1,11 @@
 -- `quick::find_views` meets its contract. The lengths summed and the ends or'ed are those of the views before i. Assumes nothing.
 use Prim.Native.Nat.{ℕ, _+_, _-_, _*_, _≤_}
-use mathlib.Core.Path.{_≡_, refl, sym, ap, _∙_}
+use mathlib.Core.Path.{_≡_, refl, sym, ap, ap₂, _∙_}
 use native.Mathlib.Omega.{arith}
-use lib.ListN.{getD}
-use lib.Dec.{leb}
+use Rattle.table.specs.Flat.{viewFrom, tableSize}
 use Rattle.exact.specs.Exact.{every}
 use Rattle.exact.proofs.Every.{every-next}
-use Rattle.quick.specs.Marks.{total, holds, lengthsOf, allWithin}
+use Rattle.quick.specs.Marks.{total, holds, within, lengthsOf, allWithin}
 use Rattle.quick.proofs.Marks.{or-more}
 use Rattle.quick.proofs.Upto.{total-next, room}
 use Rattle.quick.proofs.find_views.Statement.{statement}
@@ -19,57 +18,40 @@ Inv-loop t first width count n octets₀ ends₀ i₀ octets ends i =
 abbrev μ-loop : tie.MeasureT-loop
 μ-loop t first width count n octets₀ ends₀ i₀ octets ends i = count - i
 
+-- the view of a turn stands in the table
+inside : (k : tie.In-loop Inv-loop μ-loop)
+    → let l = k .before in
+    let a = l .before .before .args in
+    a .first + a .width * l .loop .i + 2 ≤ tableSize
+inside k =
+    let l = k .before in
+    let a = l .before .before .args in
+    omega (arith, room (a .width) (l .loop .i) (a .count) (omega arith))
+
 loop-holds : tie.Need-loop-holds Inv-loop μ-loop
 unfolding every total
 loop-holds c = (omega arith, omega arith, refl, refl)
 
 mul-at : tie.Need-mul-at Inv-loop μ-loop
-mul-at c =
-    let l = c .before in
-    let a = l .before .before .args in
-    omega (arith, room (a .width) (l .loop .i) (a .count) (omega arith))
+mul-at c = omega (arith, inside c)
 
 add-at : tie.Need-add-at Inv-loop μ-loop
-add-at c =
-    let l = c .before in
-    let a = l .before .before .args in
-    omega (arith, room (a .width) (l .loop .i) (a .count) (omega arith))
+add-at c = omega (arith, inside c)
+
+add-number-at : tie.Need-add-number-at Inv-loop μ-loop
+add-number-at c = omega (arith, inside c)
+
+number-at-requires : tie.Need-number-at-requires Inv-loop μ-loop
+number-at-requires c κs = omega (arith, inside c)
 
 add-octets : tie.Need-add-octets Inv-loop μ-loop
-add-octets c =
-    let l = c .before in
-    let a = l .before .before .args in
-    omega (arith, room (a .width) (l .loop .i) (a .count) (omega arith))
+add-octets c = omega arith
 
-mul-octets : tie.Need-mul-octets Inv-loop μ-loop
-mul-octets c =
-    let l = c .before in
-    let a = l .before .before .args in
-    omega (arith, room (a .width) (l .loop .i) (a .count) (omega arith))
-
-shared-slice-read-octets : tie.Need-shared-slice-read-octets Inv-loop μ-loop
-shared-slice-read-octets c =
-    let l = c .before .before in
-    let a = l .before .before .args in
-    omega (arith, room (a .width) (l .loop .i) (a .count) (omega arith))
-
-cast-octets : tie.Need-cast-octets Inv-loop μ-loop
-cast-octets c =
-    let l = c .before .before in
-    let a = l .before .before .args in
-    omega (arith, room (a .width) (l .loop .i) (a .count) (omega arith), c .shared-slice-known2 .given (a .first + a .width * l .loop .i + 1))
-
-add-octets-2 : tie.Need-add-octets-2 Inv-loop μ-loop
-add-octets-2 c =
-    let l = c .before .before in
-    let a = l .before .before .args in
-    omega (arith, room (a .width) (l .loop .i) (a .count) (omega arith), c .shared-slice-known2 .given (a .first + a .width * l .loop .i + 1))
+add-end-mark : tie.Need-add-end-mark Inv-loop μ-loop
+add-end-mark c = omega (arith, inside (c .before))
 
 end-mark-requires : tie.Need-end-mark-requires Inv-loop μ-loop
-end-mark-requires c κs =
-    let l = c .before .before in
-    let s = l .before .before in
-    (omega (arith, room (s .args .width) (l .loop .i) (s .args .count) (omega arith)), s .pre .1)
+end-mark-requires c κs = (omega (arith, inside (c .before)), omega (arith, inside (c .before)), c .before .before .before .before .pre .1)
 
 add-i : tie.Need-add-i Inv-loop μ-loop
 add-i c = omega arith
@@ -84,10 +66,9 @@ loop-again c =
     let a = l .before .before .args in
     let t = a .t .now in (
       omega arith,
-      omega (arith, c .before .shared-slice-known2 .given (a .first + a .width * l .loop .i + 1)),
-      ap (λ (k : ℕ). k + getD t (a .first + a .width * l .loop .i + 1) 0) (v .2) ∙ sym (total-next (λ k. getD t (a .first + a .width * k + 1) 0) (l .loop .i)),
-      or-more (l .loop .ends) (c .end-mark .result) (v .3) (c .end-mark .ensures)
-          ∙ sym (every-next (λ k. leb (getD t (a .first + a .width * k) 0 + getD t (a .first + a .width * k + 1) 0) (a .n)) (l .loop .i)),
+      omega arith,
+      ap₂ (λ (x y : ℕ). x + y) (v .2) (c .before .number-at .ensures .0) ∙ sym (total-next (λ k. viewFrom t (a .first + a .width * k) .len) (l .loop .i)),
+      or-more (l .loop .ends) (c .end-mark .result) (v .3) (c .end-mark .ensures) ∙ sym (every-next (λ k. within (a .n) (viewFrom t (a .first + a .width * k))) (l .loop .i)),
     )
 
 returns : tie.Need-returns Inv-loop μ-loop
@@ -112,11 +93,10 @@ find-views-spec =
     loop-holds
     mul-at
     add-at
+    add-number-at
+    number-at-requires
     add-octets
-    mul-octets
-    shared-slice-read-octets
-    cast-octets
-    add-octets-2
+    add-end-mark
     end-mark-requires
     add-i
     loop-less

@@ -20,7 +20,7 @@ agreement : (k : tie.Else3) → Agreeing (k .before .before .before .before .bef
 agreement k =
     let p = k .before .before in
     let s = p .before .before .before .before .before in
-    agree (s .args .t .now) (s .args .n) (p .find-profiles .result) (p .find-profiles .ensures) (p .before .if2 .left)
+    agree (s .args .t .now) (s .args .n) (p .find-profiles .result) (p .find-profiles .ensures) (omega arith)
     (sym (k .before .are-agreed .ensures) ∙ not-false (k .before .are-agreed .result) (k .if3 .left))
 
 contradicts : {b : Bool} → b ≡ false → b ≡ true → ⊥
@@ -29,11 +29,8 @@ contradicts p q = let z : _≡_ {A = ℕ} 0 1 = cc in absurd (omega arith)
 returns : tie.Need-returns
 returns c = let a = c .before .before .args in unknown (a .t .now) (a .n) _ (λ w. let k = w .source in absurd (omega arith))
 
-shared-slice-read-if2 : tie.Need-shared-slice-read-if2
-shared-slice-read-if2 c = search needs
-
-cast-if2 : tie.Need-cast-if2
-cast-if2 c = omega (arith, c .shared-slice-known2 .given 2)
+number-at-requires : tie.Need-number-at-requires
+number-at-requires c κs = search needs
 
 returns-2 : tie.Need-returns-2
 returns-2 c = let a = c .before .before .before .before .args in unknown (a .t .now) (a .n) _ (λ w. let k = w .counts .profiles in absurd (omega arith))
@@ -64,16 +61,16 @@ shared-slice-read-total : tie.Need-shared-slice-read-total
 shared-slice-read-total c = search needs
 
 cast-total : tie.Need-cast-total
-cast-total c = omega (arith, c .shared-slice-known3 .given 1)
+cast-total c = omega (arith, c .shared-slice-known2 .given 1)
 
 add-total : tie.Need-add-total
-add-total c = omega (arith, c .shared-slice-known3 .given 1)
+add-total c = omega (arith, c .shared-slice-known2 .given 1)
 
 add-total-2 : tie.Need-add-total-2
-add-total-2 c = omega (arith, c .before .shared-slice-known3 .given 1, c .before .before .before .before .before .before .before .before .find-profiles .ensures .small)
+add-total-2 c = omega (arith, c .before .shared-slice-known2 .given 1, c .before .before .before .before .before .before .before .before .find-profiles .ensures .small)
 
 add-total-3 : tie.Need-add-total-3
-add-total-3 c = omega (arith, c .before .before .shared-slice-known3 .given 1, c .before .before .before .before .before .before .before .before .before .find-profiles .ensures .small, c .before .before .before .before .before .before .find-entries .ensures .small)
+add-total-3 c = omega (arith, c .before .before .shared-slice-known2 .given 1, c .before .before .before .before .before .before .before .before .before .find-profiles .ensures .small, c .before .before .before .before .before .before .find-entries .ensures .small)
 
 returns-4 : tie.Need-returns-4
 returns-4 c =
@@ -116,8 +113,7 @@ quick-length-spec =
     tie.close
     (tie.spec
     returns
-    shared-slice-read-if2
-    cast-if2
+    number-at-requires
     returns-2
     find-profiles-requires
     are-agreed-requires

@@ -1,6 +1,6 @@
 -- `reading::read_body` meets its contract. By the tag, each arm is what its callee stored, or the opaque entry. Assumes nothing.
 use mathlib.Core.Path.{refl, ap, _∙_}
-use Prim.Native.Nat.{_+_, _*_}
+use Prim.Native.Nat.{_+_}
 use lib.ListN.{length}
 use native.Mathlib.Omega.{arith}
 use borrow.Author.Needs.{needs}
@@ -9,6 +9,7 @@ use Rattle.reference.specs.declared.View.{View}
 use Rattle.reference.specs.declared.TaggedProfile.the-variants as Sort
 use Rattle.reference.specs.Placed.{view}
 use Rattle.reference.proofs.Heads.{body-biop, body-lite, body-opaque}
+use Rattle.table.specs.Region.{entry}
 use Rattle.table.specs.Flat.{profileRegion, bodyNumbers}
 use Rattle.table.proofs.Stored.{stored-in, stored-out}
 use Rattle.reading.proofs.Bodies.{stores-same, stores-opaque}
@@ -57,7 +58,7 @@ returns-3 c =
     let a = w .before .before .before .before .args in
     let x = Sort.Opaque (a .tag) (view (a .at + 8) (a .d .now)) in
     let p = stored-in profileRegion (a .table .now) (a .i) x (omega arith)
-    (b .put-opaque .ensures ∙ ap (λ (y : View). splice (a .table .now) (6 + 10 * a .i) (bodyNumbers (Sort.Opaque (a .tag) y))) (v .view-of .ensures)) in
+    (b .put-opaque .ensures ∙ ap (λ (y : View). splice (a .table .now) (entry profileRegion (a .i)) (bodyNumbers (Sort.Opaque (a .tag) y))) (v .view-of .ensures)) in
     stores-same (stores-opaque (a .at) (a .table .now) (a .i) (a .used) (a .tag) (a .d .now) (w .before .before .before .before .pre .4) p)
     (body-opaque (a .tag) (a .d .now) (length (a .d .now)) (w .before .if1 .left) (w .if2 .left) refl)
 

@@ -6,12 +6,13 @@ use lib.ListN.{replicate, getD-replicate}
 use Rattle.table.proofs.Replaced.{Replaced, begin, turn, finish}
 use Rattle.table.proofs.clear.Statement.{statement}
 use Rattle.table.proofs.clear.Tie as tie
+use Rattle.table.specs.Flat.{tableSize}
 
 abbrev Inv-loop : tie.InvT-loop
-Inv-loop out₀ i₀ out i = Replaced 490 (replicate 490 0) out₀ out i
+Inv-loop out₀ i₀ out i = Replaced tableSize (replicate tableSize 0) out₀ out i
 
 abbrev μ-loop : tie.MeasureT-loop
-μ-loop out₀ i₀ out i = 490 - i
+μ-loop out₀ i₀ out i = tableSize - i
 
 loop-holds : tie.Need-loop-holds Inv-loop μ-loop
 loop-holds c = begin refl (c .pre)
@@ -29,7 +30,7 @@ loop-less : tie.Need-loop-less Inv-loop μ-loop
 loop-less c = omega arith
 
 loop-again : tie.Need-loop-again Inv-loop μ-loop
-loop-again c = let l = c .before .loop in turn (l .inv) 0 (omega arith) (sym (getD-replicate 490 (l .i) 0 0 (omega arith)))
+loop-again c = let l = c .before .loop in turn (l .inv) 0 (omega arith) (sym (getD-replicate tableSize (l .i) 0 0 (omega arith)))
 
 same-length : tie.Need-same-length Inv-loop μ-loop
 same-length c = c .before .loop .inv .long ∙ sym (c .before .before .pre)

@@ -2,9 +2,8 @@
 use borrow.Author.Needs.{needs}
 use mathlib.Core.Path.{_≡_, sym, _∙_, subst}
 use mathlib.Core.List.{List}
-use Prim.Native.Nat.{ℕ, _+_, _*_, _≤_}
+use Prim.Native.Nat.{ℕ, _+_, _≤_}
 use lib.ListN.{length}
-use Rattle.octets.specs.Octets.{part}
 use Rattle.reference.specs.declared.TaggedProfile.{TaggedProfile}
 use Rattle.reference.specs.declared.TaggedProfile.the-variants as Sort
 use Rattle.reference.specs.Writer.{ownSize}
@@ -34,7 +33,7 @@ biop : (c : tie.After-location-at)
 biop c =
     let k = c .before .before in
     let s = k .before .before .before .before in
-    biop-told (part (s .args .t .now) (6 + 10 * s .args .i) 10) _ (s .args .count) (s .pre .1 .0 .0) (sym (k .sort-at .ensures) ∙ c .before .if1 .taken)
+    biop-told _ _ _ (s .args .count) (s .pre .1 .0 .0) (sym (k .sort-at .ensures) ∙ c .before .if1 .taken)
     (c .location-at .ensures)
 
 lite : (c : tie.After-address-at)
@@ -45,7 +44,7 @@ lite c =
     let v = c .before .before in
     let k = v .before .before in
     let s = k .before .before .before .before in
-    lite-told (part (s .args .t .now) (6 + 10 * s .args .i) 10) _ _ (s .args .count) (s .pre .1 .0 .0) (sym (k .sort-at .ensures) ∙ c .before .if2 .taken)
+    lite-told _ _ _ _ (s .args .count) (s .pre .1 .0 .0) (sym (k .sort-at .ensures) ∙ c .before .if2 .taken)
     (c .address-at .ensures) (v .profile-view .ensures)
 
 opaque : (c : tie.After-tag-at)
@@ -55,8 +54,7 @@ opaque : (c : tie.After-tag-at)
 opaque c =
     let v = c .before .before in
     let k = v .before .before in
-    let s = k .before .before .before .before in
-    opaque-told (part (s .args .t .now) (6 + 10 * s .args .i) 10) _ _ (λ e. v .before .if1 .left (k .sort-at .ensures ∙ e)) (λ e. c .before .if2 .left (k .sort-at .ensures ∙ e))
+    opaque-told _ _ _ _ (λ e. v .before .if1 .left (k .sort-at .ensures ∙ e)) (λ e. c .before .if2 .left (k .sort-at .ensures ∙ e))
     (c .tag-at .ensures) (v .profile-view .ensures)
 
 sort-at-requires : tie.Need-sort-at-requires

@@ -50,17 +50,14 @@ inside v =
     subst (Placed (l .loop .first)) (sym (v .counts-at .ensures))
     (walk-placed (s .args .t .now) _ _ (passed s) (l .loop .i) (l .loop .first) (l .loop .inv .2) (omega (arith, l .loop .inv .1)))
 
-shared-slice-read-used : tie.Need-shared-slice-read-used Inv-loop μ-loop
-shared-slice-read-used c = omega arith
-
-cast-used : tie.Need-cast-used Inv-loop μ-loop
-cast-used c = omega (arith, c .shared-slice-known3 .given 2)
+number-at-requires : tie.Need-number-at-requires Inv-loop μ-loop
+number-at-requires c κs = omega arith
 
 loop-holds : tie.Need-loop-holds Inv-loop μ-loop
 loop-holds c =
     let s = c .before .before .before .before in (
       omega arith,
-      sym (profiles-used (s .args .t .now)),
+      c .number-at .ensures .0 ∙ sym (profiles-used (s .args .t .now)),
       record { taps = refl; names = refl; extras = refl },
       begin refl (omega arith) (used-sound (s .args .src .now) (tablesFrom (s .args .t .now)) (length (s .args .out .now)) (passed s)),
     )
@@ -124,8 +121,7 @@ write-profiles-spec =
     (tie.spec
     Inv-loop
     μ-loop
-    shared-slice-read-used
-    cast-used
+    number-at-requires
     loop-holds
     counts-at-requires
     write-profile-requires

@@ -1,0 +1,46 @@
+-- What the parts of a reading leave in a lent table, and what they answer: profiles, the checks behind them, a reference. Assumes nothing.
+use Prim.Native.Nat.{ℕ}
+use mathlib.Core.Path.{_≡_}
+use mathlib.Core.List.{List}
+use Rattle.reference.specs.declared.Answer.{Answer as Told}
+use Rattle.reference.specs.declared.Answer.the-variants.{Count, Refused}
+use Rattle.reference.specs.declared.Check.{Check}
+use Rattle.reference.specs.Meaning.{Profile, Reference, tapsOf, namesOf, extrasOf, sum}
+use Rattle.reference.specs.Steps.{Answer, ok, refused, seen}
+use Rattle.table.specs.Filed.{profilesFiled, noCounts, referenceFiled}
+use Rattle.components.specs.Told.{Filled}
+use Rattle.reading.specs.Open.{unless}
+use Rattle.reading.specs.declared.ProfilesRead.{ProfilesRead}
+use Rattle.reading.specs.declared.ProfilesRead.the-variants as Ways
+
+-- ---- profiles: of a refused reading the table is open, the public reading clears it
+
+abbrev pub profilesTold : List ℕ → ProfilesRead → Answer Filled
+profilesTold e (Ways.Got u next) = ok (record { table = e; counts = u }) next
+profilesTold e (Ways.Not x) = refused x
+
+-- the table t with all entries of the profiles l, the first of which stands at offset at, and how many entries of each sort they have
+abbrev pub allFilled : ℕ → List ℕ → List Profile → Filled
+allFilled at t l =
+    record {
+      table = profilesFiled at t 0 noCounts l;
+      counts = record { taps = sum tapsOf l; names = sum namesOf l; extras = sum extrasOf l };
+    }
+
+-- A reading x of profiles, the first of which stands at offset at, was stored into t: that left e, and ended as v.
+pub record StoresProfiles (at : ℕ) (t : List ℕ) (x : Answer (List Profile)) (e : List ℕ) (v : ProfilesRead) : Type 0 where
+  pub told : profilesTold e v ≡ seen (allFilled at t) x
+
+-- ---- behind the profiles: the check, and the table that is left if it passes
+
+abbrev pub openTold : List ℕ → Told → Answer (List ℕ)
+openTold e (Count n) = ok e n
+openTold e (Refused x) = refused x
+
+pub record Closes (c : Check) (t : List ℕ) (last : ℕ) (e : List ℕ) (r : Told) : Type 0 where
+  pub told : openTold e r ≡ unless c t last
+
+-- ---- a reference, its table still open where it is refused
+
+pub record StoresReference (x : Answer Reference) (t e : List ℕ) (r : Told) : Type 0 where
+  pub told : openTold e r ≡ seen (referenceFiled t) x
