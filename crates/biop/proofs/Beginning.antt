@@ -1,89 +1,166 @@
--- A BIOP body behind its head; the head by the cases of the code; and what a head that was read tells. Assumes nothing.
-use Prim.Native.Nat.{ℕ, _+_, _-_, _≤_}
-use mathlib.Core.Path.{_≡_, ap, _∙_}
+-- What stands before the first tap: a component's header, the ObjectLocation, and BIOP data up to there, one law for each case of the code. The
+-- premises are what the code knows there, so that a proof only names the law. Assumes nothing.
+use Prim.Native.Nat.{ℕ, _+_, _-_, _<_, _≤_}
+use mathlib.Core.Path.{_≡_, sym, ap, _∙_}
 use mathlib.Core.List.{List}
+use mathlib.Core.Logic.{_≢_}
+use native.Mathlib.Nat.{add-assoc}
 use native.Mathlib.Omega.{arith}
-use lib.ListN.{length, length-append}
-use Rattle.octets.specs.Octets.{Octets}
+use borrow.Author.Tests.{lt-ltb, le-ltb, eq-eqb, ne-eqb}
+use mir.Syntax.{w8}
+use mir.Val.{Fits}
+use lib.ListN.{length, getD, length-append}
+use Rattle.octets.specs.Octets.{be, part}
 use Rattle.octets.proofs.Inverse.{length-octets}
 use Rattle.reference.specs.declared.Refusal.{Refusal}
-use Rattle.reference.specs.Meaning.{Tap, Extra, Location, Biop}
+use Rattle.reference.specs.Meaning.{Location, Biop, biop}
 use Rattle.reference.specs.Layout.{tag-location, tag-binder, layoutLocation, tagged}
-use Rattle.reference.specs.Steps.{Answer, ok, refused, followed, seen, after, done}
-use Rattle.reference.specs.Heads.{before}
-use Rattle.reference.specs.Reader.{readCount, readObjectLocation, readBiop, readTaps, readBiopExtras, readBiopFixed}
-use Rattle.reference.specs.Heads.{Opened, BiopHead, readBinderHead, readBiopHead}
-use Rattle.reference.proofs.Laws.{followed-ok}
-use Rattle.reference.proofs.Parts.{count-reads, object-location-reads}
-use Rattle.reference.proofs.Steps.{after-no, after-ok, after-done}
-use Rattle.reference.proofs.Heads.{biop-cut, opened-known}
-use Rattle.reference.specs.Places.{place-binder-header, place-binder-tag, place-biop-components, place-biop-fixed, place-biop-order, place-tap-count}
+use Rattle.reference.specs.Refusals.{cutAt, leftAt, longAt, wrongAt}
+use Rattle.reference.specs.Steps.{Answer, ok, refused, seen, need, checked, number, run, within, done, ending, after}
+use Rattle.reference.specs.Reader.{readCount, readLocation, readObjectLocation, readBiop, readBiopFixed}
+use Rattle.reference.specs.Heads.{edge, readPart, readBinderHead, readBiopHead, readBiopRest}
+use Rattle.reference.specs.Places.{place-biop-components, place-biop-fixed, place-biop-order, place-location-fixed, place-location-header, place-location-leftover, place-location-tag, place-binder-header, place-binder-tag, place-tap-count}
+use Rattle.reference.proofs.Parts.{object-location-reads}
+use Rattle.reference.proofs.Steps.{followed-followed}
+use Rattle.reference.proofs.Heads.{biop-cut, part-known, component-no, component-data, opened-no, opened-data, count-cut, count-read}
+use Rattle.table.specs.declared.Counts.{Counts}
+use Rattle.components.specs.declared.BodyRead.{BodyRead}
+use Rattle.components.specs.declared.BodyRead.the-variants as Bodies
+use Rattle.components.specs.declared.Ended.{Ended}
+use Rattle.components.specs.declared.Ended.the-variants as Ends
+use Rattle.components.specs.declared.FixedRead.{FixedRead}
+use Rattle.components.specs.declared.FixedRead.the-variants as Fixed
+use Rattle.components.specs.Told.{fixedTold, StoresBody}
 use Rattle.components.proofs.Fixed.{fixed-known}
-use Rattle.components.proofs.Moves.{moved}
+use Rattle.components.proofs.Moves.{octets-of-slice, moved}
+use Rattle.biop.specs.Told.{partTold, locationOf, locationTold, headOf, readFromBinder}
 
-abbrev pub made : Location → List Tap → List Extra → Biop
-made l ts es = record { location = l; taps = ts; extras = es }
+-- ---- a component's header
 
-abbrev pub headed : Location → ℕ → Opened ℕ → BiopHead
-headed l m b = record { location = l; taps = b .head; extras = m; stop = b .stop }
+module _ (tag header spot : ℕ) (d : List ℕ) (pos end : ℕ) where
+  abbrev part-told : Answer ℕ
+  part-told = readPart 1 tag header spot d pos end
 
-module _ (d : List ℕ) (end : ℕ) where
-  -- what is left behind a head
-  abbrev pub left : BiopHead → ℕ → Answer Biop
-  left h next =
-      followed (readTaps (h .taps) d next (h .stop))
-      (λ ts mid. followed (readBiopExtras (h .extras) d mid end) (λ es last. ok (made (h .location) ts es) last))
+  pub header-cut : {x : Refusal} → x ≡ cutAt header pos 5 end → end < pos + 5 → refused x ≡ part-told
+  unfolding readPart need
+  header-cut e h = simp (e, lt-ltb)
 
-  pub biop-left : readBiop d 0 end ≡ followed (readBiopHead d 0 end) left
-  unfolding after before done
-  biop-left = biop-cut d 0 end
+  module _ {t : ℕ} (found : t ≡ be (part d pos 4)) (room : pos + 5 ≤ end) where
+    pub tag-wrong : {x : Refusal} → x ≡ wrongAt 3 spot → t ≢ tag → refused x ≡ part-told
+    unfolding readPart need checked
+    tag-wrong e h = simp (e, ← found, le-ltb, ne-eqb)
 
-  pub head-no : {x : Refusal} → readBiopFixed d 0 end ≡ refused x → readBiopHead d 0 end ≡ refused x
-  unfolding readBiopHead
-  head-no e = after-no d 0 end _ _ e
+    module _ {n : ℕ} (right : t ≡ tag) (size : n ≡ be (part d (pos + 4) 1)) where
+      pub data-over : {x : Refusal} → x ≡ longAt (pos + 5) n end → end - (pos + 5) < n → refused x ≡ part-told
+      unfolding readPart need checked number within
+      data-over e h = simp (e, add-assoc, ← found, ← size, le-ltb, lt-ltb, eq-eqb)
 
-  module _ {c : ℕ} (e : readBiopFixed d 0 end ≡ ok c 2) where
-    pub head-no-location : {x : Refusal} → readObjectLocation d 2 end ≡ refused x → readBiopHead d 0 end ≡ refused x
-    unfolding readBiopHead
-    head-no-location q = after-ok d 0 end _ _ e ∙ after-no d 2 end _ _ q
+      pub header-read : n ≤ end - (pos + 5) → ok (pos + 5 + n) (pos + 5) ≡ part-told
+      unfolding readPart need checked number within edge
+      header-read h = simp (add-assoc, ← found, ← size, le-ltb, eq-eqb) (ap (λ (x : ℕ). ok x (pos + 5)) (omega arith))
 
-    pub head-located : {l : Location} {next : ℕ} → readObjectLocation d 2 end ≡ ok l next → readBiopHead d 0 end ≡ seen (headed l (c - 2)) (readBinderHead d next end)
-    unfolding readBiopHead
-    head-located q = after-ok d 0 end _ _ e ∙ after-ok d 2 end _ _ q ∙ after-done d _ end readBinderHead _
+  -- what stands in the data stands before the end
+  pub data-inside : (r : Ended) → partTold pos r ≡ part-told → {stop k : ℕ} → r ≡ Ends.At stop → k ≤ stop → k ≤ end
+  data-inside r e q h = omega (arith, part-known 1 tag header spot d pos end (sym e ∙ ap (partTold pos) q) .2)
 
--- where the taps stand, and that the counts are octets
-pub record Known (d : List ℕ) (h : BiopHead) (next : ℕ) : Type 0 where
-  pub before : next ≤ h .stop
-  pub inside : h .stop ≤ length d
-  pub stands : next ≡ length (layoutLocation (h .location)) + 13
-  pub taps : h .taps ≤ 255
-  pub extras : h .extras ≤ 255
+-- ---- the ObjectLocation: its fields, which stand at 7 and must end at stop, and its component
 
-tagged-length : (w tag : ℕ) (l : List ℕ) → length (tagged w tag l) ≡ 4 + (w + length l)
-tagged-length w tag l = simp (length-append, length-octets) (omega arith)
+module _ (d : List ℕ) (stop : ℕ) where
+  abbrev fields-told : Answer Location
+  fields-told = ending place-location-leftover readLocation d 7 stop
 
-pub head-known : (d : List ℕ) → Octets d → {h : BiopHead} {next : ℕ} → readBiopHead d 0 (length d) ≡ ok h next → Known d h next
-unfolding readBiopHead readBinderHead after done
-head-known d o {h} {next} e =
-    let end = length d in
-    let (c, p, pc, q) = followed-ok (readBiopFixed d 0 end) _ e in
-    let (two, least, small, ep) = fixed-known 2 place-biop-fixed place-biop-order place-biop-components d end o (omega arith) pc in
-    let (l, mid, pl, q′) = followed-ok (readObjectLocation d p end) _ q in
-    let (room, span) = moved object-location-reads d p end o (omega arith) (omega arith) pl in
-    let (b, last, pb, q″) = followed-ok (readBinderHead d mid end) _ q′ in
-    let (read, from, to) = opened-known 1 tag-binder place-binder-header place-binder-tag (readCount 1 place-tap-count) d mid end pb in
-    let (f, n) = count-reads 1 place-tap-count .sound d (mid + 5) (b .stop) (record { octs = o; fits = to; room = omega arith }) (b .head) last read in
-    let eh : headed l (c - 2) b ≡ h = cc in
-    let en : last ≡ next = cc in
-    let el = ap (λ (x : BiopHead). length (layoutLocation (x .location))) eh in
-    let es = ap (λ (x : BiopHead). x .stop) eh in
-    let et = ap (λ (x : BiopHead). x .taps) eh in
-    let ee = ap (λ (x : BiopHead). x .extras) eh in
-    let s : last ≡ mid + 6 = omega (arith, f .span, length-octets 1 (b .head)) in
-    record {
-      before = omega (arith, f .room);
-      inside = omega arith;
-      stands = omega (arith, span, tagged-length 1 tag-location (layoutLocation l));
-      taps = omega arith;
-      extras = omega arith;
-    }
+  pub fields-cut : {x : Refusal} → x ≡ cutAt place-location-fixed 7 9 stop → stop < 16 → refused x ≡ fields-told
+  unfolding ending readLocation need
+  fields-cut e h = simp (e, lt-ltb)
+
+  module _ {n : ℕ} (size : n ≡ be (part d 15 1)) (room : 16 ≤ stop) where
+    pub key-over : {x : Refusal} → x ≡ longAt 16 n stop → stop - 16 < n → refused x ≡ fields-told
+    unfolding ending readLocation need number run
+    key-over e h = simp (e, ← size, le-ltb, lt-ltb)
+
+    module _ (fits : n ≤ stop - 16) where
+      pub fields-left : {x : Refusal} → x ≡ leftAt place-location-leftover (16 + n) stop → 16 + n ≢ stop → refused x ≡ fields-told
+      unfolding ending readLocation need number run done
+      fields-left e h = simp (e, ← size, le-ltb, ne-eqb)
+
+      pub fields-read : 16 + n ≡ stop → ok (locationOf d (16 + n)) (16 + n) ≡ fields-told
+      unfolding ending readLocation need number run done
+      fields-read h = let k : 16 + n - 16 ≡ n = omega arith in simp (← size, k, le-ltb, eq-eqb)
+
+module _ (d : List ℕ) (r : Ended) (e : partTold 2 r ≡ readPart 1 tag-location place-location-header place-location-tag d 2 (length d)) where
+  pub part-no : {x : Refusal} → r ≡ Ends.Not x → refused x ≡ readObjectLocation d 2 (length d)
+  unfolding readObjectLocation
+  part-no q = sym (component-no 1 tag-location place-location-header place-location-tag d 2 (length d) _ (sym e ∙ ap (partTold 2) q))
+
+  pub part-data : {stop : ℕ} {x : Answer Location} → r ≡ Ends.At stop → x ≡ fields-told d stop → x ≡ readObjectLocation d 2 (length d)
+  unfolding readObjectLocation
+  part-data q f = f ∙ sym (component-data 1 tag-location place-location-header place-location-tag d 2 (length d) _ (sym e ∙ ap (partTold 2) q))
+
+-- ---- what is known where the ConnBinder stands
+
+module _ (d : List ℕ) (octs : (k : ℕ) → Fits w8 (getD d k 0)) (r : FixedRead) (e : fixedTold r ≡ readBiopFixed d 0 (length d)) {c : ℕ} (q : r ≡ Fixed.Got c) where
+  counted : (2 ≤ length d) × (2 ≤ c) × (c < 256)
+  counted =
+      let (two, least, small, at) = fixed-known 2 place-biop-fixed place-biop-order place-biop-components d (length d) (octets-of-slice d (λ k. octs k .fits)) (omega arith) (sym e ∙ ap fixedTold q) in
+      (two, least, small)
+
+  pub two-at-least : 2 ≤ c
+  two-at-least = counted .1
+
+  pub extras-few : c - 2 ≤ 255
+  extras-few = omega (arith, counted .2)
+
+  module _ (v : Ended) (f : locationTold d v ≡ readObjectLocation d 2 (length d)) {next : ℕ} (n : v ≡ Ends.At next) where
+    spanned : (next ≤ length d) × (next ≡ 2 + length (tagged 1 tag-location (layoutLocation (locationOf d next))))
+    spanned = moved object-location-reads d 2 (length d) (octets-of-slice d (λ k. octs k .fits)) (counted .0) (omega arith) (sym f ∙ ap (locationTold d) n)
+
+    pub located-inside : next ≤ length d
+    located-inside = spanned .0
+
+    pub located-low : 16 ≤ next
+    unfolding layoutLocation
+    located-low = omega (arith, simp (length-append, length-octets) at (spanned .1))
+
+-- ---- the data, stored into t as profile i: that left t′
+
+module _ (at : ℕ) (t : List ℕ) (i : ℕ) (u : Counts) (d t′ : List ℕ) where
+  abbrev Stored : Answer Biop → BodyRead → Type 0
+  Stored x v = StoresBody at t i u (seen (λ b. biop b) x) (length d) t′ v
+
+  -- from the ConnBinder on, which stands at pos
+  module _ (extras pos : ℕ) (r : Ended) (e : partTold pos r ≡ readPart 1 tag-binder place-binder-header place-binder-tag d pos (length d)) where
+    pub binder-no : {x : Refusal} → r ≡ Ends.Not x → Stored (readFromBinder extras d pos (length d)) (Bodies.Not x)
+    unfolding readFromBinder readBinderHead after
+    binder-no q = record { told = rw (opened-no 1 tag-binder place-binder-header place-binder-tag d pos (length d) (readCount 1 place-tap-count) (sym e ∙ ap (partTold pos) q)) }
+
+    module _ {stop : ℕ} (q : r ≡ Ends.At stop) where
+      pub count-short : {x : Refusal} → x ≡ cutAt place-tap-count (pos + 5) 1 stop → stop < pos + 5 + 1 → Stored (readFromBinder extras d pos (length d)) (Bodies.Not x)
+      unfolding readFromBinder readBinderHead after
+      count-short c h =
+          record { told = rw (c, opened-data 1 tag-binder place-binder-header place-binder-tag d pos (length d) (readCount 1 place-tap-count) (sym e ∙ ap (partTold pos) q), count-cut) }
+
+      pub binder-read : {n : ℕ} {v : BodyRead} → n ≡ be (part d (pos + 5) 1) → pos + 5 + 1 ≤ stop
+          → Stored (readBiopRest (headOf d (record { binder = pos; stop = stop; taps = n; extras = extras })) d (pos + 6) (length d)) v → Stored (readFromBinder extras d pos (length d)) v
+      unfolding readFromBinder readBinderHead after
+      binder-read n h s =
+          record {
+            told =
+                rw
+                (opened-data 1 tag-binder place-binder-header place-binder-tag d pos (length d) (readCount 1 place-tap-count) (sym e ∙ ap (partTold pos) q), count-read, ← n, add-assoc pos 5 1)
+                (s .told);
+          }
+
+  -- from the start on
+  module _ (r : FixedRead) (e : fixedTold r ≡ readBiopFixed d 0 (length d)) where
+    pub fixed-no : {x : Refusal} → r ≡ Fixed.Not x → Stored (readBiop d 0 (length d)) (Bodies.Not x)
+    unfolding readBiopHead after
+    fixed-no q = record { told = rw (biop-cut, sym e ∙ ap fixedTold q) }
+
+    module _ {c : ℕ} (q : r ≡ Fixed.Got c) (v : Ended) (f : locationTold d v ≡ readObjectLocation d 2 (length d)) where
+      pub location-no : {x : Refusal} → v ≡ Ends.Not x → Stored (readBiop d 0 (length d)) (Bodies.Not x)
+      unfolding readBiopHead after
+      location-no n = record { told = rw (biop-cut, sym e ∙ ap fixedTold q, sym f ∙ ap (locationTold d) n) }
+
+      pub located : {next : ℕ} {w : BodyRead} → v ≡ Ends.At next → Stored (readFromBinder (c - 2) d next (length d)) w → Stored (readBiop d 0 (length d)) w
+      unfolding readBiopHead readFromBinder after done
+      located n s = record { told = rw (biop-cut, sym e ∙ ap fixedTold q, sym f ∙ ap (locationTold d) n) (simp followed-followed (s .told)) }

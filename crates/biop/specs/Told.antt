@@ -1,68 +1,64 @@
--- What the readers of a BIOP body tell, in the definition's words: a tap, a component's header, the ObjectLocation, the head of a body up to
--- its first tap, and what is left behind the head. Assumes nothing.
-use Prim.Native.Nat.{ℕ, _+_}
-use mathlib.Core.List.{List, [], _∷_}
-use lib.ListN.{length}
+-- What the readers of BIOP data tell, in the definition's words: a tap, a component's header, the ObjectLocation, and what follows it. Assumes
+-- nothing.
+use Prim.Native.Nat.{ℕ, _+_, _-_}
+use mathlib.Core.Path.{_≡_}
+use mathlib.Core.List.{List}
+use Rattle.octets.specs.Octets.{be, part}
 use Rattle.reference.specs.declared.Tap.{Tap as TapEntry}
 use Rattle.reference.specs.declared.ObjectLocation.{ObjectLocation}
-use Rattle.reference.specs.declared.TaggedProfile.the-variants as Sort
-use Rattle.reference.specs.Meaning.{Tap, Extra}
-use Rattle.reference.specs.Layout.{layoutTap, layoutExtra}
-use Rattle.reference.specs.Steps.{Answer, ok, refused, followed}
-use Rattle.reference.specs.Reader.{readTaps, readBiopExtras}
-use Rattle.reference.specs.Heads.{BiopHead}
-use Rattle.reference.specs.Placed.{placed, tapAt, extraAt, locationAt}
-use Rattle.table.specs.declared.Counts.{Counts}
-use Rattle.table.specs.Region.{stored}
-use Rattle.table.specs.Flat.{profileRegion, tapRegion, extraRegion}
-use Rattle.components.specs.Told.{Filled}
+use Rattle.reference.specs.Meaning.{Location, Biop}
+use Rattle.reference.specs.Steps.{Answer, ok, refused, Reader, after}
+use Rattle.reference.specs.Heads.{BiopHead, readBinderHead, readBiopRest}
+use Rattle.components.specs.declared.Ended.{Ended}
+use Rattle.components.specs.declared.Ended.the-variants as Ends
 use Rattle.biop.specs.declared.Head.{Head}
 use Rattle.biop.specs.declared.TapRead.{TapRead}
 use Rattle.biop.specs.declared.TapRead.the-variants as Taps
-use Rattle.biop.specs.declared.PartRead.{PartRead}
-use Rattle.biop.specs.declared.PartRead.the-variants as Parts
-use Rattle.biop.specs.declared.LocationRead.{LocationRead}
-use Rattle.biop.specs.declared.LocationRead.the-variants as Locations
-use Rattle.biop.specs.declared.HeadRead.{HeadRead}
-use Rattle.biop.specs.declared.HeadRead.the-variants as Heads
+
+-- ---- a tap
 
 abbrev pub tapTold : TapRead → Answer TapEntry
 tapTold (Taps.Got t next) = ok t next
 tapTold (Taps.Not x) = refused x
 
--- ---- a component's header
+-- the entry of the fields at pos, of which the selector has n octets
+pub record TapIn (d : List ℕ) (base pos n : ℕ) (t : TapEntry) : Type 0 where
+  pub id : t .id ≡ be (part d pos 2)
+  pub uses : t .«use_» ≡ be (part d (pos + 2) 2)
+  pub association : t .association ≡ be (part d (pos + 4) 2)
+  pub selector : t .selector ≡ record { at = base + (pos + 7); len = n }
 
-abbrev pub partTold : PartRead → Answer ℕ
-partTold (Parts.Got start stop) = ok stop start
-partTold (Parts.Not x) = refused x
+-- ---- the header at pos of a component: its data ends where it says
 
--- ---- the ObjectLocation
+abbrev pub partTold : ℕ → Ended → Answer ℕ
+partTold pos (Ends.At stop) = ok stop (pos + 5)
+partTold pos (Ends.Not x) = refused x
 
-abbrev pub locationTold : LocationRead → Answer ObjectLocation
-locationTold (Locations.Got l next) = ok l next
-locationTold (Locations.Not x) = refused x
+-- ---- the ObjectLocation, whose fields stand at 7
 
--- ---- the head: what is known before the first tap
+-- the one that ends at next
+abbrev pub locationOf : List ℕ → ℕ → Location
+locationOf d next =
+    record { carousel = be (part d 7 4); moduleId = be (part d 11 2); major = be (part d 13 1); minor = be (part d 14 1); key = part d 16 (next - 16) }
 
--- the location's fields stand 7 octets on in the data
-abbrev pub headAt : ℕ → BiopHead → Head
-headAt base h = record { location = locationAt (base + 7) (h .location); taps = h .taps; extras = h .extras; stop = h .stop }
+abbrev pub locationTold : List ℕ → Ended → Answer Location
+locationTold d (Ends.At next) = ok (locationOf d next) next
+locationTold d (Ends.Not x) = refused x
 
-abbrev pub headTold : HeadRead → Answer Head
-headTold (Heads.Got h next) = ok h next
-headTold (Heads.Not x) = refused x
+-- its entry
+pub record LocationIn (d : List ℕ) (base next : ℕ) (l : ObjectLocation) : Type 0 where
+  pub carousel : l .carousel ≡ locationOf d next .carousel
+  pub moduleId : l .«module» ≡ locationOf d next .moduleId
+  pub major : l .«version_major» ≡ locationOf d next .major
+  pub minor : l .«version_minor» ≡ locationOf d next .minor
+  pub key : l .key ≡ record { at = base + 16; len = next - 16 }
 
--- ---- what is left behind the head, as profile i
+-- ---- what follows it
 
-abbrev pub biopFilled : ℕ → Head → Counts → ℕ → List ℕ → ℕ → ℕ → List Tap → List Extra → Filled
-biopFilled base h u i t next mid ts es =
-    record {
-      table = stored profileRegion (stored extraRegion (stored tapRegion t (u .taps) (placed tapAt layoutTap (base + next) ts)) (u .extras) (placed extraAt layoutExtra (base + mid) es)) i
-          (Sort.Biop (h .location) (h .taps) (h .extras) ∷ []);
-      counts = record { taps = u .taps + h .taps; names = u .names; extras = u .extras + h .extras };
-    }
+abbrev pub headOf : List ℕ → Head → BiopHead
+headOf d h = record { location = locationOf d (h .binder); taps = h .taps; extras = h .extras; stop = h .stop }
 
-abbrev pub biopRest : List ℕ → ℕ → Head → Counts → ℕ → List ℕ → ℕ → Answer Filled
-biopRest d base h u i t next =
-    followed (readTaps (h .taps) d next (h .stop))
-    (λ ts mid. followed (readBiopExtras (h .extras) d mid (length d)) (λ es last. ok (biopFilled base h u i t next mid ts es) last))
+-- from the ConnBinder on, which stands at pos, with so many extras behind it
+unfoldable pub readFromBinder : ℕ → Reader Biop
+readFromBinder extras d pos =
+    after readBinderHead (λ b. readBiopRest (record { location = locationOf d pos; taps = b .head; extras = extras; stop = b .stop })) d pos

@@ -5,13 +5,14 @@ ghost use mathlib.Core.Path.{_≡_};
 ghost use Prim.Native.Nat.{_+_, _≤_};
 ghost use lib.ListN.{length};
 ghost use Rattle.reference.specs.Meaning.{biop};
-ghost use Rattle.reference.specs.Layout.{tag-location};
-ghost use Rattle.reference.specs.Reader.{readTap, readTaps, readLocation, readBiop, readObjectLocation};
-ghost use Rattle.reference.specs.Heads.{readPart, readBinderHead, readBiopHead};
-ghost use Rattle.reference.specs.Steps.{seen};
-ghost use Rattle.reference.specs.Placed.{tapAt, locationAt};
-ghost use Rattle.components.specs.Told.{StoresTaps, StoresBody, bodyTold};
-ghost use Rattle.biop.specs.Told.{tapTold, partTold, locationTold, headTold, headAt, biopRest};
+ghost use Rattle.reference.specs.Places.{place-location-leftover};
+ghost use Rattle.reference.specs.Reader.{readTap, readTaps, readLocation, readObjectLocation, readBiop};
+ghost use Rattle.reference.specs.Heads.{readPart, readBiopRest};
+ghost use Rattle.reference.specs.Steps.{seen, ending};
+ghost use Rattle.reference.specs.Placed.{tapAt};
+ghost use Rattle.components.specs.Told.{StoresTaps, StoresBody};
+ghost use Rattle.biop.specs.Told.{tapTold, TapIn, partTold, LocationIn, locationTold, headOf, readFromBinder};
+ghost use Rattle.table.specs.Flat.{Lent};
 use components::BodyRead;
 use components::Ended;
 use components::FixedRead;
@@ -50,39 +51,41 @@ use table::Counts;
 use table::put_biop;
 use table::put_tap;
 
+// Where the data has the ObjectLocation, behind the two fixed octets: its header, its fields, of which the key's length is the last before the
+// key, and the key.
+const LOCATION_HEADER: usize = 2;
+
+const LOCATION: usize = 7;
+
+const KEY_LENGTH: usize = 15;
+
+const KEY: usize = 16;
+
 enum TapRead {
     Got { tap: Tap, next: usize },
     Not { why: Refusal },
 }
 
-// A component's header: where its data starts and ends.
-enum PartRead {
-    Got { data: usize, stop: usize },
-    Not { why: Refusal },
-}
-
-enum LocationRead {
-    Got {
-        location: ObjectLocation,
-        next: usize,
-    },
-    Not {
-        why: Refusal,
-    },
-}
-
-// What is known before the first tap: the location, how many taps and extras follow, and where the ConnBinder ends.
+// What is known before the first tap: where the ConnBinder starts, which is where the ObjectLocation ends, and where it ends; how many taps
+// and extras follow.
 struct Head {
-    location: ObjectLocation,
+    binder: usize,
+    stop: usize,
     taps: usize,
     extras: usize,
-    stop: usize,
 }
 
-// `next` is where the first tap stands.
-enum HeadRead {
-    Got { head: Head, next: usize },
-    Not { why: Refusal },
+// The entry of the tap at `pos`, whose selector of `len` octets is there.
+fn tap_in(d: &[u8], base: usize, pos: usize, len: usize) -> Tap
+    requires { ⌜ (pos + 7 + len ≤ length (now d)) × (base + length (now d) ≤ 65535) ⌝ }
+    ensures { λ r. ⌜ TapIn (now (d .entry)) base pos len r ⌝ }
+{
+    Tap {
+        id: be16(d, pos),
+        use_: be16(d, pos + 2),
+        association: be16(d, pos + 4),
+        selector: view_of(base, pos + 7, len),
+    }
 }
 
 fn read_tap(d: &[u8], base: usize, pos: usize, end: usize) -> TapRead
@@ -101,14 +104,8 @@ fn read_tap(d: &[u8], base: usize, pos: usize, end: usize) -> TapRead
             why: too_long(data, len, end),
         };
     }
-    let tap = Tap {
-        id: be16(d, pos),
-        use_: be16(d, pos + 2),
-        association: be16(d, pos + 4),
-        selector: view_of(base, data, len),
-    };
     TapRead::Got {
-        tap,
+        tap: tap_in(d, base, pos, len),
         next: data + len,
     }
 }
@@ -123,7 +120,7 @@ fn read_taps(
     table: &mut [u32],
     first: usize,
 ) -> Ended
-    requires { ⌜ (pos ≤ end) × (end ≤ length (now d)) × (base + length (now d) ≤ 65535) × (first + n ≤ 0x200000000) × (length (now table) ≡ 490) ⌝ }
+    requires { ⌜ (pos ≤ end) × (end ≤ length (now d)) × (base + length (now d) ≤ 65535) × (first + n ≤ 0x200000000) × Lent (now table) ⌝ }
     ensures { λ r. ⌜ StoresTaps (base + pos) (now (table .entry)) first (readTaps n (now (d .entry)) pos end) (now (table .exit)) r ⌝ }
 {
     let mut cur = pos;
@@ -149,128 +146,158 @@ fn read_taps(
     Ended::At(cur)
 }
 
-// The header of a component that must bear the tag; the places of a cut header and of a wrong tag.
-fn read_component(d: &[u8], pos: usize, tag: u32, header: u8, spot: u8) -> PartRead
-    requires { ⌜ pos ≤ length (now d) ⌝ }
-    ensures { λ r. ⌜ partTold r ≡ readPart 1 tag header spot (now (d .entry)) pos (length (now (d .entry))) ⌝ }
+// The header at `pos` of a component that must bear the tag: where the data behind it ends. The places are those of a cut header and of a
+// wrong tag.
+fn read_component(d: &[u8], pos: usize, tag: u32, header: u8, spot: u8) -> Ended
+    requires { ⌜ pos ≤ 65535 ⌝ }
+    ensures { λ r. ⌜ partTold pos r ≡ readPart 1 tag header spot (now (d .entry)) pos (length (now (d .entry))) ⌝ }
 {
     let end = d.len();
     let data = pos + 5;
     if end < data {
-        return PartRead::Not {
-            why: cut(header, pos, 5, end),
-        };
+        return Ended::Not(cut(header, pos, 5, end));
     }
     let found = be32(d, pos);
     if found != tag {
-        return PartRead::Not {
-            why: wrong(3, spot),
-        };
+        return Ended::Not(wrong(3, spot));
     }
     let len = octet(d, pos + 4) as usize;
     if end - data < len {
-        return PartRead::Not {
-            why: too_long(data, len, end),
-        };
+        return Ended::Not(too_long(data, len, end));
     }
-    PartRead::Got {
-        data,
-        stop: data + len,
-    }
+    Ended::At(data + len)
 }
 
-// The fields of an ObjectLocation.
-fn read_location(d: &[u8], base: usize, pos: usize, end: usize) -> LocationRead
-    requires { ⌜ (pos ≤ end) × (end ≤ length (now d)) × (base + length (now d) ≤ 65535) ⌝ }
-    ensures { λ r. ⌜ locationTold r ≡ seen (locationAt (base + pos)) (readLocation (now (d .entry)) pos end) ⌝ }
+// The fields of the ObjectLocation, which must end at `stop`.
+fn read_location(d: &[u8], stop: usize) -> Ended
+    requires { ⌜ stop ≤ length (now d) ⌝ }
+    ensures { λ r. ⌜ locationTold (now (d .entry)) r ≡ ending place-location-leftover readLocation (now (d .entry)) 7 stop ⌝ }
 {
-    let data = pos + 9;
-    if end < data {
-        return LocationRead::Not {
-            why: cut(PLACE_LOCATION_FIXED, pos, 9, end),
-        };
+    if stop < KEY {
+        return Ended::Not(cut(PLACE_LOCATION_FIXED, LOCATION, 9, stop));
     }
-    let len = octet(d, pos + 8) as usize;
-    if end - data < len {
-        return LocationRead::Not {
-            why: too_long(data, len, end),
-        };
+    let len = octet(d, KEY_LENGTH) as usize;
+    if stop - KEY < len {
+        return Ended::Not(too_long(KEY, len, stop));
     }
-    let location = ObjectLocation {
-        carousel: be32(d, pos),
-        module: be16(d, pos + 4),
-        version_major: octet(d, pos + 6),
-        version_minor: octet(d, pos + 7),
-        key: view_of(base, data, len),
-    };
-    LocationRead::Got {
-        location,
-        next: data + len,
+    let next = KEY + len;
+    if next != stop {
+        return Ended::Not(left_over(PLACE_LOCATION_LEFTOVER, next, stop));
     }
+    Ended::At(next)
 }
 
-// The ObjectLocation component, behind the two octets that begin the data.
-fn read_object_location(d: &[u8], base: usize) -> LocationRead
-    requires { ⌜ (2 ≤ length (now d)) × (base + length (now d) ≤ 65535) ⌝ }
-    ensures { λ r. ⌜ locationTold r ≡ seen (locationAt (base + 7)) (readObjectLocation (now (d .entry)) 2 (length (now (d .entry)))) ⌝ }
+// The component that holds the ObjectLocation.
+fn read_object_location(d: &[u8]) -> Ended
+    ensures { λ r. ⌜ locationTold (now (d .entry)) r ≡ readObjectLocation (now (d .entry)) 2 (length (now (d .entry))) ⌝ }
 {
     match read_component(
         d,
-        2,
+        LOCATION_HEADER,
         TAG_OBJECT_LOCATION,
         PLACE_LOCATION_HEADER,
         PLACE_LOCATION_TAG,
     ) {
-        PartRead::Not { why } => LocationRead::Not { why },
-        PartRead::Got { data, stop } => match read_location(d, base, data, stop) {
-            LocationRead::Not { why } => LocationRead::Not { why },
-            LocationRead::Got { location, next } => {
-                if next != stop {
-                    return LocationRead::Not {
-                        why: left_over(PLACE_LOCATION_LEFTOVER, next, stop),
-                    };
-                }
-                LocationRead::Got { location, next }
-            }
-        },
+        Ended::Not(why) => Ended::Not(why),
+        Ended::At(stop) => read_location(d, stop),
     }
 }
 
-// A ConnBinder up to its first tap.
-fn read_binder_head(d: &[u8], pos: usize, location: ObjectLocation, extras: usize) -> HeadRead
-    requires { ⌜ pos ≤ length (now d) ⌝ }
-    ensures { λ r. ⌜ headTold r ≡ seen (λ b. record { location = location; taps = b .head; extras = extras; stop = b .stop }) (readBinderHead (now (d .entry)) pos (length (now (d .entry)))) ⌝ }
+// The entry of the ObjectLocation, which was read and ends at `next`.
+fn location_in(d: &[u8], base: usize, next: usize) -> ObjectLocation
+    requires { ⌜ (16 ≤ next) × (next ≤ length (now d)) × (base + length (now d) ≤ 65535) ⌝ }
+    ensures { λ r. ⌜ LocationIn (now (d .entry)) base next r ⌝ }
 {
-    match read_component(
-        d,
-        pos,
-        TAG_CONN_BINDER,
-        PLACE_BINDER_HEADER,
-        PLACE_BINDER_TAG,
-    ) {
-        PartRead::Not { why } => HeadRead::Not { why },
-        PartRead::Got { data, stop } => {
-            let next = data + 1;
-            if stop < next {
-                return HeadRead::Not {
-                    why: cut(PLACE_TAP_COUNT, data, 1, stop),
-                };
+    ObjectLocation {
+        carousel: be32(d, LOCATION),
+        module: be16(d, LOCATION + 4),
+        version_major: octet(d, LOCATION + 6),
+        version_minor: octet(d, LOCATION + 7),
+        key: view_of(base, KEY, next - KEY),
+    }
+}
+
+// BIOP data from its first tap on: the taps, then the extras, which end the data; then its own entry, profile i.
+fn read_biop_rest(
+    d: &[u8],
+    at: usize,
+    head: Head,
+    table: &mut [u32],
+    i: usize,
+    mut used: Counts,
+) -> BodyRead
+    requires { ⌜ (16 ≤ head .binder) × (head .binder + 6 ≤ head .stop) × (head .stop ≤ length (now d)) × (at + 8 + length (now d) ≤ 65535) × (head .taps ≤ 255) × (head .extras ≤ 255) × (used .taps ≤ 65535) × (used .extras ≤ 65535) × Lent (now table) ⌝ }
+    ensures { λ r. ⌜ StoresBody at (now (table .entry)) i used (seen (λ b. biop b) (readBiopRest (headOf (now (d .entry)) head) (now (d .entry)) (head .binder + 6) (length (now (d .entry))))) (length (now (d .entry))) (now (table .exit)) r ⌝ }
+{
+    let base = at + 8;
+    let taps = head.taps;
+    let extras = head.extras;
+    let first_tap = used.taps;
+    let first_extra = used.extras;
+    let place = PLACE_BIOP_EXTRA;
+    let left = PLACE_BIOP_LEFTOVER;
+    match read_taps(d, base, head.binder + 6, head.stop, taps, table, first_tap) {
+        Ended::Not(why) => BodyRead::Not { why },
+        Ended::At(mid) => {
+            match read_extras(d, base, mid, extras, place, left, table, first_extra) {
+                Ended::Not(why) => BodyRead::Not { why },
+                Ended::At(last) => {
+                    if i < PROFILES {
+                        let location = location_in(d, base, head.binder);
+                        put_biop(location, taps as u32, extras as u32, table, i);
+                    }
+                    used.taps = first_tap + taps;
+                    used.extras = first_extra + extras;
+                    BodyRead::Got { used }
+                }
             }
-            let head = Head {
-                location,
-                taps: octet(d, data) as usize,
-                extras,
-                stop,
-            };
-            HeadRead::Got { head, next }
         }
     }
 }
 
-// A BIOP body up to its first tap.
-fn read_biop_head(d: &[u8], base: usize) -> HeadRead
-    requires { ⌜ base + length (now d) ≤ 65535 ⌝ }
-    ensures { λ r. ⌜ headTold r ≡ seen (headAt base) (readBiopHead (now (d .entry)) 0 (length (now (d .entry)))) ⌝ }
+// BIOP data from its ConnBinder on, which stands at `binder`; `extras` components follow it.
+fn read_binder(
+    d: &[u8],
+    at: usize,
+    binder: usize,
+    extras: usize,
+    table: &mut [u32],
+    i: usize,
+    used: Counts,
+) -> BodyRead
+    requires { ⌜ (16 ≤ binder) × (binder ≤ length (now d)) × (at + 8 + length (now d) ≤ 65535) × (extras ≤ 255) × (used .taps ≤ 65535) × (used .extras ≤ 65535) × Lent (now table) ⌝ }
+    ensures { λ r. ⌜ StoresBody at (now (table .entry)) i used (seen (λ b. biop b) (readFromBinder extras (now (d .entry)) binder (length (now (d .entry))))) (length (now (d .entry))) (now (table .exit)) r ⌝ }
+{
+    match read_component(
+        d,
+        binder,
+        TAG_CONN_BINDER,
+        PLACE_BINDER_HEADER,
+        PLACE_BINDER_TAG,
+    ) {
+        Ended::Not(why) => BodyRead::Not { why },
+        Ended::At(stop) => {
+            let data = binder + 5;
+            if stop < data + 1 {
+                return BodyRead::Not {
+                    why: cut(PLACE_TAP_COUNT, data, 1, stop),
+                };
+            }
+            let head = Head {
+                binder,
+                stop,
+                taps: octet(d, data) as usize,
+                extras,
+            };
+            read_biop_rest(d, at, head, table, i, used)
+        }
+    }
+}
+
+// The data d of a BIOP profile whose header stands at `at` becomes profile i of the table; `used` counts the entries before it.
+pub fn read_biop(d: &[u8], at: usize, table: &mut [u32], i: usize, used: Counts) -> BodyRead
+    requires { ⌜ (at + 8 + length (now d) ≤ 65535) × (used .taps ≤ 65535) × (used .names ≤ 65535) × (used .extras ≤ 65535) × Lent (now table) ⌝ }
+    ensures { λ r. ⌜ StoresBody at (now (table .entry)) i used (seen (λ b. biop b) (readBiop (now (d .entry)) 0 (length (now (d .entry))))) (length (now (d .entry))) (now (table .exit)) r ⌝ }
 {
     match read_fixed(
         d,
@@ -279,71 +306,10 @@ fn read_biop_head(d: &[u8], base: usize) -> HeadRead
         PLACE_BIOP_ORDER,
         PLACE_BIOP_COMPONENTS,
     ) {
-        FixedRead::Not { why } => HeadRead::Not { why },
-        FixedRead::Got { count } => match read_object_location(d, base) {
-            LocationRead::Not { why } => HeadRead::Not { why },
-            LocationRead::Got { location, next } => {
-                read_binder_head(d, next, location, count - 2)
-            }
-        },
-    }
-}
-
-// A BIOP body from its first tap on: the taps, then the extras, which end the data; then its own entry, profile i.
-fn read_biop_rest(
-    d: &[u8],
-    base: usize,
-    head: Head,
-    next: usize,
-    table: &mut [u32],
-    i: usize,
-    used: Counts,
-) -> BodyRead
-    requires { ⌜ (next ≤ head .stop) × (head .stop ≤ length (now d)) × (base + length (now d) ≤ 65535) × (head .taps ≤ 255) × (head .extras ≤ 255) × (used .taps ≤ 65535) × (used .extras ≤ 65535) × (length (now table) ≡ 490) ⌝ }
-    ensures { λ r. ⌜ bodyTold (length (now (d .entry))) (now (table .exit)) r ≡ biopRest (now (d .entry)) base head used i (now (table .entry)) next ⌝ }
-{
-    let location = head.location;
-    let taps = head.taps;
-    let extras = head.extras;
-    let stop = head.stop;
-    let first_tap = used.taps;
-    let first_extra = used.extras;
-    match read_taps(d, base, next, stop, taps, table, first_tap) {
-        Ended::Not(why) => BodyRead::Not { why },
-        Ended::At(after) => match read_extras(
-            d,
-            base,
-            after,
-            extras,
-            PLACE_BIOP_EXTRA,
-            PLACE_BIOP_LEFTOVER,
-            table,
-            first_extra,
-        ) {
+        FixedRead::Not { why } => BodyRead::Not { why },
+        FixedRead::Got { count } => match read_object_location(d) {
             Ended::Not(why) => BodyRead::Not { why },
-            Ended::At(last) => {
-                if i < PROFILES {
-                    put_biop(location, taps as u32, extras as u32, table, i);
-                }
-                let counts = Counts {
-                    taps: first_tap + taps,
-                    names: used.names,
-                    extras: first_extra + extras,
-                };
-                BodyRead::Got { used: counts }
-            }
+            Ended::At(next) => read_binder(d, at, next, count - 2, table, i, used),
         },
-    }
-}
-
-// The data d of a BIOP profile whose header stands at `at` becomes profile i of the table; `used` counts the entries before it.
-pub fn read_biop(d: &[u8], at: usize, table: &mut [u32], i: usize, used: Counts) -> BodyRead
-    requires { ⌜ (at + 8 + length (now d) ≤ 65535) × (used .taps ≤ 65535) × (used .names ≤ 65535) × (used .extras ≤ 65535) × (length (now table) ≡ 490) ⌝ }
-    ensures { λ r. ⌜ StoresBody at (now (table .entry)) i used (seen (λ b. biop b) (readBiop (now (d .entry)) 0 (length (now (d .entry))))) (length (now (d .entry))) (now (table .exit)) r ⌝ }
-{
-    let base = at + 8;
-    match read_biop_head(d, base) {
-        HeadRead::Not { why } => BodyRead::Not { why },
-        HeadRead::Got { head, next } => read_biop_rest(d, base, head, next, table, i, used),
     }
 }

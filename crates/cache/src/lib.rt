@@ -76,7 +76,7 @@ pub struct Rows {
 
 // The rows of the records that stand whole in a block from `at` on, after `seen` others, as many as surely fit the page.
 pub fn put_rows(block: &[u8], at: usize, seen: u64, table: &mut [u32], page: &mut [u8]) -> Rows
-    requires { ⌜ (at ≤ length (now block)) × (seen + length (now block) < 0x10000000000000000) × (Lent (now table)) × (length (now page) < 0x8000000000000000) ⌝ }
+    requires { ⌜ (at ≤ length (now block)) × (seen + length (now block) < 0x10000000000000000) × Lent (now table) × (length (now page) < 0x8000000000000000) ⌝ }
     ensures { λ r. ⌜ Listed (now (block .entry)) at seen (now (page .exit)) r ⌝ }
 {
     let room = page.len();

@@ -140,7 +140,7 @@ fn read_names(
     table: &mut [u32],
     first: usize,
 ) -> Ended
-    requires { ⌜ (pos ≤ end) × (end ≤ length (now d)) × (base + length (now d) ≤ 65535) × (first + n ≤ 0x200000000) × (Lent (now table)) ⌝ }
+    requires { ⌜ (pos ≤ end) × (end ≤ length (now d)) × (base + length (now d) ≤ 65535) × (first + n ≤ 0x200000000) × Lent (now table) ⌝ }
     ensures { λ r. ⌜ StoresNames (base + pos) (now (table .entry)) first (many n readName (now (d .entry)) pos end) (now (table .exit)) r ⌝ }
 {
     let mut cur = pos;
@@ -283,7 +283,7 @@ fn read_lite_rest(
     i: usize,
     mut used: Counts,
 ) -> BodyRead
-    requires { ⌜ (35 ≤ head .stop) × (head .stop ≤ length (now d)) × (at + 8 + length (now d) ≤ 65535) × (head .extras ≤ 255) × (used .names ≤ 65535) × (used .extras ≤ 65535) × (Lent (now table)) ⌝ }
+    requires { ⌜ (35 ≤ head .stop) × (head .stop ≤ length (now d)) × (at + 8 + length (now d) ≤ 65535) × (head .extras ≤ 255) × (used .names ≤ 65535) × (used .extras ≤ 65535) × Lent (now table) ⌝ }
     ensures { λ r. ⌜ StoresRest at (now (table .entry)) i used head (now (d .entry)) (now (table .exit)) r ⌝ }
 {
     let base = at + 8;
@@ -317,7 +317,7 @@ fn read_lite_rest(
 // The data d of a LiteOptions profile becomes profile i of the table, behind the entries that are used; its header stands at `at` in the
 // caller's slice. Of a refused reading the table is open.
 pub fn read_lite(d: &[u8], at: usize, table: &mut [u32], i: usize, used: Counts) -> BodyRead
-    requires { ⌜ (at + 8 + length (now d) ≤ 65535) × (used .taps ≤ 65535) × (used .names ≤ 65535) × (used .extras ≤ 65535) × (Lent (now table)) ⌝ }
+    requires { ⌜ (at + 8 + length (now d) ≤ 65535) × (used .taps ≤ 65535) × (used .names ≤ 65535) × (used .extras ≤ 65535) × Lent (now table) ⌝ }
     ensures { λ r. ⌜ StoresBody at (now (table .entry)) i used (seen (λ l. lite l) (readLite (now (d .entry)) 0 (length (now (d .entry))))) (length (now (d .entry))) (now (table .exit)) r ⌝ }
 {
     match read_lite_head(d) {

@@ -169,7 +169,7 @@ fn check_end(
 
 // The data of a profile whose header stands at `at`: it becomes profile i of the table, if there is room.
 fn read_body(d: &[u8], at: usize, tag: u32, table: &mut [u32], i: usize, used: Counts) -> BodyRead
-    requires { ⌜ (at + 8 + length (now d) ≤ 65535) × (used .taps ≤ 65535) × (used .names ≤ 65535) × (used .extras ≤ 65535) × (Lent (now table)) ⌝ }
+    requires { ⌜ (at + 8 + length (now d) ≤ 65535) × (used .taps ≤ 65535) × (used .names ≤ 65535) × (used .extras ≤ 65535) × Lent (now table) ⌝ }
     ensures { λ r. ⌜ StoresBody at (now (table .entry)) i used (readBody tag (now (d .entry)) 0 (length (now (d .entry)))) (length (now (d .entry))) (now (table .exit)) r ⌝ }
 {
     if tag == TAG_BIOP {
@@ -191,7 +191,7 @@ enum ProfilesRead {
 }
 
 fn read_profiles(d: &[u8], pos: usize, n: usize, table: &mut [u32]) -> ProfilesRead
-    requires { ⌜ (pos ≤ length (now d)) × (length (now d) ≤ 65535) × (Lent (now table)) ⌝ }
+    requires { ⌜ (pos ≤ length (now d)) × (length (now d) ≤ 65535) × Lent (now table) ⌝ }
     ensures { λ r. ⌜ StoresProfiles pos (now (table .entry)) (many n readProfile (now (d .entry)) pos (length (now (d .entry)))) (now (table .exit)) r ⌝ }
 {
     let mut used = Counts {
@@ -235,7 +235,7 @@ fn finish(
     used: Counts,
     table: &mut [u32],
 ) -> Answer
-    requires { ⌜ (last ≤ length (now d)) × (Lent (now table)) ⌝ }
+    requires { ⌜ (last ≤ length (now d)) × Lent (now table) ⌝ }
     ensures { λ r. ⌜ Closes (endCheck whole last (length (now (d .entry))) count (used .taps) (used .names) (used .extras)) (splice (now (table .entry)) 0 (frontNumbers «type_id» count (used .taps) (used .names) (used .extras))) last (now (table .exit)) r ⌝ }
 {
     let taps = used.taps;

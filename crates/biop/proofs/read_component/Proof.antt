@@ -1,11 +1,6 @@
--- `biop::read_component` meets its contract. One equation for each return. Assumes nothing.
-use Prim.Native.Nat.{ℕ, _+_}
-use mathlib.Core.Path.{sym, ap, _∙_}
-use native.Mathlib.Omega.{arith}
-use lib.ListN.{length}
-use Rattle.reference.specs.Steps.{ok, refused}
-use Rattle.reference.proofs.Heads.{part-cut, part-wrong, part-over, part-read}
+-- `biop::read_component` meets its contract. Each return is a case of the definition. Assumes nothing.
 use borrow.Author.Needs.{needs}
+use Rattle.biop.proofs.Beginning.{header-cut, tag-wrong, data-over, header-read}
 use Rattle.biop.proofs.read_component.Statement.{statement}
 use Rattle.biop.proofs.read_component.Tie as tie
 
@@ -16,9 +11,7 @@ cut-requires : tie.Need-cut-requires
 cut-requires c κs = search needs
 
 returns : tie.Need-returns
-returns c =
-    let a = c .before .before .before .args in
-    ap refused (c .cut .ensures) ∙ sym (part-cut 1 (a .tag) (a .header) (a .spot) (a .d .now) (a .pos) (length (a .d .now)) (omega arith))
+returns c = search header-cut
 
 be32-requires : tie.Need-be32-requires
 be32-requires c κs = search needs
@@ -27,11 +20,7 @@ wrong-requires : tie.Need-wrong-requires
 wrong-requires c κs = search needs
 
 returns-2 : tie.Need-returns-2
-returns-2 c =
-    let o = c .before .before in
-    let a = o .before .before .before .args in
-    ap refused (c .wrong .ensures)
-    ∙ sym (part-wrong 1 (a .tag) (a .header) (a .spot) (a .d .now) (a .pos) (length (a .d .now)) (omega arith) (λ e. c .before .if2 .taken (o .be32 .ensures ∙ e)))
+returns-2 c = search tag-wrong
 
 add-octet : tie.Need-add-octet
 add-octet c = search needs
@@ -46,25 +35,13 @@ too-long-requires : tie.Need-too-long-requires
 too-long-requires c κs = search needs
 
 returns-3 : tie.Need-returns-3
-returns-3 c =
-    let n = c .before .before in
-    let o = n .before .before in
-    let a = o .before .before .before .args in
-    rw (c .too-long .ensures, n .octet .ensures)
-    (sym
-    (part-over 1 (a .tag) (a .header) (a .spot) (a .d .now) (a .pos) (length (a .d .now)) (omega arith) (sym (o .be32 .ensures) ∙ n .before .if2 .left) (omega (arith, n .octet .ensures))))
+returns-3 c = search data-over
 
 add-t14 : tie.Need-add-t14
 add-t14 c = search needs
 
 returns-4 : tie.Need-returns-4
-returns-4 c =
-    let n = c .before in
-    let o = n .before .before in
-    let a = o .before .before .before .args in
-    ap (λ (x : ℕ). ok (a .pos + 5 + x) (a .pos + 5)) (n .octet .ensures)
-    ∙ sym
-    (part-read 1 (a .tag) (a .header) (a .spot) (a .d .now) (a .pos) (length (a .d .now)) (omega arith) (sym (o .be32 .ensures) ∙ n .before .if2 .left) (omega (arith, n .octet .ensures)))
+returns-4 c = search header-read
 
 pub read-component-spec : {M : Type 1} → statement M
 read-component-spec =
