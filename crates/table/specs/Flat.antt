@@ -44,6 +44,8 @@ bodyWide (Sort.Opaque t v) = refl
 bodyWide (Sort.Biop l nt ne) = refl
 bodyWide (Sort.LiteOptions a nn c ne) = refl
 
+-- ---- where they stand: behind the front, sort by sort
+
 abbrev pub profileRegion : Region TaggedProfile
 profileRegion = record { start = 6; width = 10; size = 8; numbers = bodyNumbers; wide = bodyWide }
 
@@ -62,6 +64,10 @@ tableSize = past extraRegion
 
 abbrev pub Lent : List ℕ → Type 0
 Lent t = length t ≡ tableSize
+
+-- as firmware counts
+pub places : (tapRegion .start ≡ 86) × (nameRegion .start ≡ 266) × (extraRegion .start ≡ 394) × (tableSize ≡ 490)
+places = (refl, refl, refl, refl)
 
 -- the used counts
 abbrev pub profilesUsed : List ℕ → ℕ

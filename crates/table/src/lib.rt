@@ -62,6 +62,7 @@ pub struct Counts {
     pub extras: usize,
 }
 
+// The cast apart: of a parameter its type says that it fits, of a slice's number a proof would have to.
 fn wide(v: u32) -> usize
     ensures { λ r. ⌜ (r ≡ v) × (r < 0x100000000) ⌝ }
 {
