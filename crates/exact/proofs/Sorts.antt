@@ -9,6 +9,7 @@ use borrow.Author.Tests.{ne-eqb}
 use Rattle.octets.specs.Octets.{part}
 use Rattle.reference.specs.Steps.{pick}
 use Rattle.table.proofs.Near.{first, number}
+use Rattle.table.specs.Flat.{profileRegion, tapRegion}
 use Rattle.exact.specs.Exact.{locationExact, addressExact, profileExact, tapExact}
 
 module _ (t : List ℕ) (k : ℕ) where
@@ -24,16 +25,17 @@ module _ (t : List ℕ) (k : ℕ) where
   unfolding profileExact
   profile-other a b = rw (ne-eqb (getD t k 0) 1 a, ne-eqb (getD t k 0) 2 b)
 
-  pub tap-near : tapExact (part t k 5) 0 ≡ tapExact t k
-  tap-near = λ i. ltb (first t k 5 (lit< tt) i) 65536 && ltb (number t k 5 1 (lit< tt) i) 65536 && ltb (number t k 5 2 (lit< tt) i) 65536
+  pub tap-near : tapExact (part t k (tapRegion .width)) 0 ≡ tapExact t k
+  tap-near = λ i. ltb (first t k (tapRegion .width) (lit< tt) i) 65536 && ltb (number t k (tapRegion .width) 1 (lit< tt) i) 65536 && ltb (number t k (tapRegion .width) 2 (lit< tt) i) 65536
 
-  pub profile-near : profileExact (part t k 10) 0 ≡ profileExact t k
+  pub profile-near : profileExact (part t k (profileRegion .width)) 0 ≡ profileExact t k
   unfolding profileExact
   profile-near =
       λ i.
-      let a = first t k 10 (lit< tt) i in
-      let b = number t k 10 2 (lit< tt) i in
-      let c = number t k 10 3 (lit< tt) i in
-      let d = number t k 10 4 (lit< tt) i in
-      let e = number t k 10 5 (lit< tt) i in
+      let w = profileRegion .width in
+      let a = first t k w (lit< tt) i in
+      let b = number t k w 2 (lit< tt) i in
+      let c = number t k w 3 (lit< tt) i in
+      let d = number t k w 4 (lit< tt) i in
+      let e = number t k w 5 (lit< tt) i in
       pick (eqb a 1) (ltb b 65536 && ltb c 256 && ltb d 256) (pick (eqb a 2) (ltb b 16777216 && ltb c 65536 && ltb d 65536 && ltb e 65536) (eqb a 0))

@@ -9,7 +9,7 @@ use Rattle.octets.specs.Octets.{part}
 use Rattle.octets.proofs.Part.{part-get}
 use Rattle.reference.specs.declared.TaggedProfile.the-variants as Sort
 use Rattle.reference.specs.Steps.{pick}
-use Rattle.table.specs.Flat.{viewAt, tapFrom, nameFrom, extraFrom, locationFrom, addressFrom, bodyFrom, profileFrom}
+use Rattle.table.specs.Flat.{viewAt, tapFrom, nameFrom, extraFrom, locationFrom, addressFrom, bodyFrom, profileFrom, profileRegion, tapRegion, nameRegion, extraRegion}
 
 module _ (t : List ℕ) (k : ℕ) where
   -- number j, and the view at numbers i and j, of n numbers from k on
@@ -22,47 +22,50 @@ module _ (t : List ℕ) (k : ℕ) where
   view : (n i j : ℕ) → i < n → j < n → viewAt (part t k n) i j ≡ viewAt t (k + i) (k + j)
   view n i j h l = λ x. record { at = number n i h x; len = number n j l x }
 
-  pub tap-near : tapFrom (part t k 5) 0 ≡ tapFrom t k
+  pub tap-near : tapFrom (part t k (tapRegion .width)) 0 ≡ tapFrom t k
   tap-near =
-      λ i. record { id = first 5 (lit< tt) i % 65536; «use_» = number 5 1 (lit< tt) i % 65536; association = number 5 2 (lit< tt) i % 65536; selector = view 5 3 4 (lit< tt) (lit< tt) i }
+      λ i. record { id = first (tapRegion .width) (lit< tt) i % 65536; «use_» = number (tapRegion .width) 1 (lit< tt) i % 65536; association = number (tapRegion .width) 2 (lit< tt) i % 65536; selector = view (tapRegion .width) 3 4 (lit< tt) (lit< tt) i }
 
-  pub name-near : nameFrom (part t k 4) 0 ≡ nameFrom t k
-  name-near = λ i. record { id = record { at = first 4 (lit< tt) i; len = number 4 1 (lit< tt) i }; kind = view 4 2 3 (lit< tt) (lit< tt) i }
+  pub name-near : nameFrom (part t k (nameRegion .width)) 0 ≡ nameFrom t k
+  name-near = λ i. record { id = record { at = first (nameRegion .width) (lit< tt) i; len = number (nameRegion .width) 1 (lit< tt) i }; kind = view (nameRegion .width) 2 3 (lit< tt) (lit< tt) i }
 
-  pub extra-near : extraFrom (part t k 3) 0 ≡ extraFrom t k
-  extra-near = λ i. record { tag = first 3 (lit< tt) i; «data» = view 3 1 2 (lit< tt) (lit< tt) i }
+  pub extra-near : extraFrom (part t k (extraRegion .width)) 0 ≡ extraFrom t k
+  extra-near = λ i. record { tag = first (extraRegion .width) (lit< tt) i; «data» = view (extraRegion .width) 1 2 (lit< tt) (lit< tt) i }
 
-  location-near : locationFrom (part t k 10) 0 ≡ locationFrom t k
+  abbrev w : ℕ
+  w = profileRegion .width
+
+  location-near : locationFrom (part t k w) 0 ≡ locationFrom t k
   location-near =
       λ i.
       record {
-        carousel = number 10 1 (lit< tt) i;
-        «module» = number 10 2 (lit< tt) i % 65536;
-        «version_major» = number 10 3 (lit< tt) i % 256;
-        «version_minor» = number 10 4 (lit< tt) i % 256;
-        key = view 10 5 6 (lit< tt) (lit< tt) i;
+        carousel = number w 1 (lit< tt) i;
+        «module» = number w 2 (lit< tt) i % 65536;
+        «version_major» = number w 3 (lit< tt) i % 256;
+        «version_minor» = number w 4 (lit< tt) i % 256;
+        key = view w 5 6 (lit< tt) (lit< tt) i;
       }
 
-  address-near : addressFrom (part t k 10) 0 ≡ addressFrom t k
+  address-near : addressFrom (part t k w) 0 ≡ addressFrom t k
   address-near =
       λ i.
       record {
-        carousel = number 10 1 (lit< tt) i;
-        specifier0 = number 10 2 (lit< tt) i / 65536 % 256;
-        specifier1 = number 10 2 (lit< tt) i / 256 % 256;
-        specifier2 = number 10 2 (lit< tt) i % 256;
-        «transport_stream» = number 10 3 (lit< tt) i % 65536;
-        «original_network» = number 10 4 (lit< tt) i % 65536;
-        service = number 10 5 (lit< tt) i % 65536;
+        carousel = number w 1 (lit< tt) i;
+        specifier0 = number w 2 (lit< tt) i / 65536 % 256;
+        specifier1 = number w 2 (lit< tt) i / 256 % 256;
+        specifier2 = number w 2 (lit< tt) i % 256;
+        «transport_stream» = number w 3 (lit< tt) i % 65536;
+        «original_network» = number w 4 (lit< tt) i % 65536;
+        service = number w 5 (lit< tt) i % 65536;
       }
 
-  body-near : bodyFrom (part t k 10) 0 ≡ bodyFrom t k
+  body-near : bodyFrom (part t k w) 0 ≡ bodyFrom t k
   unfolding bodyFrom
   body-near =
       λ i.
-      pick (eqb (first 10 (lit< tt) i) 1) (Sort.Biop (location-near i) (number 10 7 (lit< tt) i) (number 10 8 (lit< tt) i))
-      (pick (eqb (first 10 (lit< tt) i) 2) (Sort.LiteOptions (address-near i) (number 10 6 (lit< tt) i) (view 10 7 8 (lit< tt) (lit< tt) i) (number 10 9 (lit< tt) i))
-      (Sort.Opaque (number 10 1 (lit< tt) i) (view 10 2 3 (lit< tt) (lit< tt) i)))
+      pick (eqb (first w (lit< tt) i) 1) (Sort.Biop (location-near i) (number w 7 (lit< tt) i) (number w 8 (lit< tt) i))
+      (pick (eqb (first w (lit< tt) i) 2) (Sort.LiteOptions (address-near i) (number w 6 (lit< tt) i) (view w 7 8 (lit< tt) (lit< tt) i) (number w 9 (lit< tt) i))
+      (Sort.Opaque (number w 1 (lit< tt) i) (view w 2 3 (lit< tt) (lit< tt) i)))
 
-  pub profile-near : profileFrom (part t k 10) 0 ≡ profileFrom t k
+  pub profile-near : profileFrom (part t k w) 0 ≡ profileFrom t k
   profile-near = λ i. record { body = body-near i }
