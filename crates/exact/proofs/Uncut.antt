@@ -1,6 +1,6 @@
 -- A table is exact exactly if no number of it is cut: the entry that a row tells has the numbers of the row, as many as its sort names. Assumes nothing.
-use Prim.Native.Nat.{ℕ, _+_, _*_, _/_, _%_, _<_, min}
-use mathlib.Core.Path.{_≡_, refl, sym, ap, subst}
+use Prim.Native.Nat.{ℕ, _+_, _*_, _/_, _%_, _<_, _≤_, min}
+use mathlib.Core.Path.{_≡_, refl, sym, ap, subst, _∙_}
 use mathlib.Core.Bool.{Bool, true, false, _&&_, cond}
 use mathlib.Core.List.{List, [], _∷_}
 use mathlib.Core.Logic.{_↔_}
@@ -9,7 +9,7 @@ use native.Mathlib.Omega.{arith}
 use lib.Dec.{ltb, eqb}
 use lib.ListN.{take, getD}
 use borrow.Author.Tests.{ltb-true, eqb-true, lt-ltb, eq-eqb}
-use Rattle.octets.proofs.Part.{row, row-part}
+use Rattle.octets.proofs.Part.{row, row-part, part-start}
 use Rattle.reference.specs.Steps.{pick}
 use Rattle.reference.specs.declared.TaggedProfile.the-variants as Sort
 use Rattle.table.specs.Flat.{bodyNumbers, bodyFrom, profileRegion, tapRegion, Lent, profilesUsed, tapsUsed, tapNumbers, tapFrom, biopFrom, liteFrom, opaqueFrom}
@@ -111,8 +111,15 @@ module _ (t : List ℕ) (long : Lent t) where
   unfolding row bodyFrom profileExact
   profile-row i l =
       let at = entry profileRegion i in
-      subst (λ (x : List ℕ). (profileExact t at ≡ true) ↔ (take (named (getD t at 0)) (bodyNumbers (bodyFrom t at)) ≡ take (named (getD t at 0)) x)) (row-part t at 10 (omega arith))
+      let n = named (getD t at 0) in
+      subst (λ (x : List ℕ). (profileExact t at ≡ true) ↔ (take n (bodyNumbers (bodyFrom t at)) ≡ x))
+      (ap (take n) (row-part t at 10 (omega arith)) ∙ part-start t at 10 n (few (eqb (getD t at 0) 1) (eqb (getD t at 0) 2)))
       (profile-exactly (getD t at 0) (getD t (at + 1) 0) (getD t (at + 2) 0) (getD t (at + 3) 0) (getD t (at + 4) 0) (getD t (at + 5) 0) (getD t (at + 6) 0) (getD t (at + 7) 0) (getD t (at + 8) 0) (getD t (at + 9) 0))
+    where
+      few : (p q : Bool) → cond p 9 (cond q 10 4) ≤ 10
+      few true q = omega arith
+      few false true = omega arith
+      few false false = omega arith
 
   pub exact-exactly : (exact t ≡ true) ↔ Uncut t
   unfolding exact

@@ -9,7 +9,7 @@ use Rattle.octets.specs.Octets.{part}
 use Rattle.table.specs.Flat.{tapNumbers, bodyNumbers, bodyFrom, profileRegion, tapRegion, profilesUsed, tapsUsed, tapOfTable}
 use Rattle.table.specs.Region.{entry}
 
--- how many of a profile's ten numbers its sort names
+-- how many of a profile's numbers its sort names
 abbrev pub named : ℕ → ℕ
 named s = cond (eqb s 1) 9 (cond (eqb s 2) 10 4)
 
@@ -17,7 +17,7 @@ abbrev pub ProfileUncut : List ℕ → ℕ → Type 0
 ProfileUncut t i =
     let k = entry profileRegion i in
     let n = named (getD t k 0) in
-    take n (bodyNumbers (bodyFrom t k)) ≡ take n (part t k (profileRegion .width))
+    take n (bodyNumbers (bodyFrom t k)) ≡ part t k n
 
 abbrev pub TapUncut : List ℕ → ℕ → Type 0
 TapUncut t i = tapNumbers (tapOfTable t i) ≡ part t (entry tapRegion i) (tapRegion .width)
