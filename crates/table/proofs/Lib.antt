@@ -8,3 +8,4 @@ pub mod Entries
 pub mod Lent
 pub mod Typed
 pub mod Alike
+pub mod Places

@@ -65,10 +65,6 @@ tableSize = past extraRegion
 abbrev pub Lent : List ℕ → Type 0
 Lent t = length t ≡ tableSize
 
--- as firmware counts
-pub places : (tapRegion .start ≡ 86) × (nameRegion .start ≡ 266) × (extraRegion .start ≡ 394) × (tableSize ≡ 490)
-places = (refl, refl, refl, refl)
-
 -- the used counts
 abbrev pub profilesUsed : List ℕ → ℕ
 profilesUsed t = getD t 2 0
