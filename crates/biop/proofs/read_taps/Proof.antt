@@ -1,13 +1,21 @@
 -- `biop::read_taps` meets its contract. Each turn stores one tap more. Assumes nothing.
 use Prim.Native.Nat.{_-_}
+use mathlib.Core.Path.{refl}
 use mathlib.Core.Logic.{⊎-elim}
 use borrow.Author.Needs.{needs}
-use Rattle.biop.proofs.Taps.{Turns, none-yet, one-no, one-in, one-out, all-left, all-read}
+use Rattle.reference.specs.Layout.{layoutTap}
+use Rattle.reference.specs.Reader.{readTap}
+use Rattle.reference.specs.Placed.{tapAt}
+use Rattle.reference.proofs.Parts.{tap-reads}
+use Rattle.table.specs.Flat.{tapRegion}
+use Rattle.components.proofs.Fills.{Fills, none-yet, ending-one-no, one-in, one-out, ending-left-over, ending-all-read}
+use Rattle.biop.specs.declared.TapRead.the-variants as Taps
+use Rattle.biop.specs.Told.{tapTold}
 use Rattle.biop.proofs.read_taps.Statement.{statement}
 use Rattle.biop.proofs.read_taps.Tie as tie
 
 abbrev Inv-loop : tie.InvT-loop
-Inv-loop d base pos end n table₀ first cur₀ i₀ table cur i = Turns d base end n pos table₀ first table cur i
+Inv-loop d base pos end n table₀ first cur₀ i₀ table cur i = Fills tapRegion tapAt layoutTap readTap d base end n pos table₀ first table cur i
 
 abbrev μ-loop : tie.MeasureT-loop
 μ-loop d base pos end n table₀ first cur₀ i₀ table cur i = n - i
@@ -25,7 +33,7 @@ same-length : tie.Need-same-length Inv-loop μ-loop
 same-length c = search needs
 
 returns : tie.Need-returns Inv-loop μ-loop
-returns c = search one-no
+returns c = search (ending-one-no tapTold)
 
 enum-known-tap : tie.Need-enum-known-tap Inv-loop μ-loop
 enum-known-tap c = search needs
@@ -43,7 +51,7 @@ loop-less : tie.Need-loop-less Inv-loop μ-loop
 loop-less c = search needs
 
 loop-again : tie.Need-loop-again Inv-loop μ-loop
-loop-again c = ⊎-elim (λ y. search one-in) (λ y. search one-out) (c .if1 .came)
+loop-again c = ⊎-elim (λ y. search (one-in tapTold Taps.Got (λ e m. refl) tap-reads, needs)) (λ y. search (one-out tapTold Taps.Got (λ e m. refl) tap-reads, needs)) (c .if1 .came)
 
 left-over-requires : tie.Need-left-over-requires Inv-loop μ-loop
 left-over-requires c κs = search needs
@@ -52,13 +60,13 @@ same-length-2 : tie.Need-same-length-2 Inv-loop μ-loop
 same-length-2 c = search needs
 
 returns-2 : tie.Need-returns-2 Inv-loop μ-loop
-returns-2 c = search all-left
+returns-2 c = search ending-left-over
 
 same-length-3 : tie.Need-same-length-3 Inv-loop μ-loop
 same-length-3 c = search needs
 
 returns-3 : tie.Need-returns-3 Inv-loop μ-loop
-returns-3 c = search all-read
+returns-3 c = search ending-all-read
 
 pub read-taps-spec : {M : Type 1} → statement M
 read-taps-spec =
