@@ -1,4 +1,4 @@
--- What stands before the first tap: a component's header, the ObjectLocation, and BIOP data up to there, one law for each case of the code. The
+-- What stands before the first tap: the ObjectLocation, and BIOP data up to there, one law for each case of the code. The
 -- premises are what the code knows there, so that a proof only names the law. Assumes nothing.
 use Prim.Native.Nat.{ℕ, _+_, _-_, _<_, _≤_}
 use mathlib.Core.Path.{_≡_, sym, ap, _∙_}
@@ -15,10 +15,10 @@ use Rattle.octets.proofs.Inverse.{length-octets}
 use Rattle.reference.specs.declared.Refusal.{Refusal}
 use Rattle.reference.specs.Meaning.{Location, Biop, biop}
 use Rattle.reference.specs.Layout.{tag-location, tag-binder, layoutLocation, tagged}
-use Rattle.reference.specs.Refusals.{cutAt, leftAt, longAt, wrongAt}
-use Rattle.reference.specs.Steps.{Answer, ok, refused, seen, need, checked, number, run, within, done, ending, after}
+use Rattle.reference.specs.Refusals.{cutAt, leftAt, longAt}
+use Rattle.reference.specs.Steps.{Answer, ok, refused, seen, need, number, run, done, ending, after}
 use Rattle.reference.specs.Reader.{readCount, readLocation, readObjectLocation, readBiop, readBiopFixed}
-use Rattle.reference.specs.Heads.{edge, readPart, readBinderHead, readBiopHead, readBiopRest}
+use Rattle.reference.specs.Heads.{readPart, readBinderHead, readBiopHead, readBiopRest}
 use Rattle.reference.specs.Places.{place-biop-components, place-biop-fixed, place-biop-order, place-location-fixed, place-location-header, place-location-leftover, place-location-tag, place-binder-header, place-binder-tag, place-tap-count}
 use Rattle.reference.proofs.Parts.{object-location-reads}
 use Rattle.reference.proofs.Steps.{followed-followed}
@@ -35,33 +35,9 @@ use Rattle.components.proofs.Fixed.{fixed-known}
 use Rattle.components.proofs.Moves.{octets-of-slice, moved}
 use Rattle.biop.specs.Told.{partTold, locationOf, locationTold, headOf, readFromBinder}
 
--- ---- a component's header
-
-module _ (tag header spot : ℕ) (d : List ℕ) (pos end : ℕ) where
-  abbrev part-told : Answer ℕ
-  part-told = readPart 1 tag header spot d pos end
-
-  pub header-cut : {x : Refusal} → x ≡ cutAt header pos 5 end → end < pos + 5 → refused x ≡ part-told
-  unfolding readPart need
-  header-cut e h = simp (e, lt-ltb)
-
-  module _ {t : ℕ} (found : t ≡ be (part d pos 4)) (room : pos + 5 ≤ end) where
-    pub tag-wrong : {x : Refusal} → x ≡ wrongAt 3 spot → t ≢ tag → refused x ≡ part-told
-    unfolding readPart need checked
-    tag-wrong e h = simp (e, ← found, le-ltb, ne-eqb)
-
-    module _ {n : ℕ} (right : t ≡ tag) (size : n ≡ be (part d (pos + 4) 1)) where
-      pub data-over : {x : Refusal} → x ≡ longAt (pos + 5) n end → end - (pos + 5) < n → refused x ≡ part-told
-      unfolding readPart need checked number within
-      data-over e h = simp (e, add-assoc, ← found, ← size, le-ltb, lt-ltb, eq-eqb)
-
-      pub header-read : n ≤ end - (pos + 5) → ok (pos + 5 + n) (pos + 5) ≡ part-told
-      unfolding readPart need checked number within edge
-      header-read h = simp (add-assoc, ← found, ← size, le-ltb, eq-eqb) (ap (λ (x : ℕ). ok x (pos + 5)) (omega arith))
-
-  -- what stands in the data stands before the end
-  pub data-inside : (r : Ended) → partTold pos r ≡ part-told → {stop k : ℕ} → r ≡ Ends.At stop → k ≤ stop → k ≤ end
-  data-inside r e q h = omega (arith, part-known 1 tag header spot d pos end (sym e ∙ ap (partTold pos) q) .2)
+-- what stands in a component's data stands before the end
+pub data-inside : (tag header spot : ℕ) (d : List ℕ) (pos end : ℕ) (r : Ended) → partTold pos r ≡ readPart 1 tag header spot d pos end → {stop k : ℕ} → r ≡ Ends.At stop → k ≤ stop → k ≤ end
+data-inside tag header spot d pos end r e q h = omega (arith, part-known 1 tag header spot d pos end (sym e ∙ ap (partTold pos) q) .2)
 
 -- ---- the ObjectLocation: its fields, which stand at 7 and must end at stop, and its component
 

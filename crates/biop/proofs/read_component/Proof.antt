@@ -1,6 +1,6 @@
 -- `biop::read_component` meets its contract. Each return is a case of the definition. Assumes nothing.
 use borrow.Author.Needs.{needs}
-use Rattle.biop.proofs.Beginning.{header-cut, tag-wrong, data-over, header-read}
+use Rattle.components.proofs.Header.{header-cut, tag-wrong, data-over, header-read}
 use Rattle.biop.proofs.read_component.Statement.{statement}
 use Rattle.biop.proofs.read_component.Tie as tie
 
@@ -41,7 +41,7 @@ add-t14 : tie.Need-add-t14
 add-t14 c = search needs
 
 returns-4 : tie.Need-returns-4
-returns-4 c = search header-read
+returns-4 c = search (header-read 1)
 
 pub read-component-spec : {M : Type 1} → statement M
 read-component-spec =

@@ -1,9 +1,6 @@
--- `lite_options::read_service_head` meets its contract. One equation for each return. Assumes nothing.
-use mathlib.Core.Path.{ap, _∙_}
-use native.Mathlib.Omega.{arith}
-use Rattle.reference.specs.Steps.{refused}
-use Rattle.lite_options.proofs.Beginning.{size-cut, size-wrong, address-cut, count-cut, service-read}
+-- `lite_options::read_service_head` meets its contract. Each return is a case of the definition. Assumes nothing.
 use borrow.Author.Needs.{needs}
+use Rattle.lite_options.proofs.Beginning.{size-cut, size-wrong, address-cut, count-cut, service-read}
 use Rattle.lite_options.proofs.read_service_head.Statement.{statement}
 use Rattle.lite_options.proofs.read_service_head.Tie as tie
 
@@ -11,7 +8,7 @@ cut-requires : tie.Need-cut-requires
 cut-requires c κs = search needs
 
 returns : tie.Need-returns
-returns c = let a = c .before .before .before .args in ap refused (c .cut .ensures) ∙ size-cut (a .d .now) (a .stop) (a .extras) (omega arith)
+returns c = search size-cut
 
 octet-requires : tie.Need-octet-requires
 octet-requires c κs = search needs
@@ -20,25 +17,19 @@ wrong-requires : tie.Need-wrong-requires
 wrong-requires c κs = search needs
 
 returns-2 : tie.Need-returns-2
-returns-2 c =
-    let a = c .before .before .before .before .before .args in
-    ap refused (c .wrong .ensures) ∙ size-wrong (a .d .now) (a .stop) (a .extras) (omega arith) (λ h. omega (arith, h))
+returns-2 c = search size-wrong
 
 cut-requires-2 : tie.Need-cut-requires-2
 cut-requires-2 c κs = search needs
 
 returns-3 : tie.Need-returns-3
-returns-3 c =
-    let a = c .before .before .before .before .before .before .args in
-    ap refused (c .cut2 .ensures) ∙ address-cut (a .d .now) (a .stop) (a .extras) (omega arith) (omega arith) (omega arith)
+returns-3 c = search address-cut
 
 cut-requires-3 : tie.Need-cut-requires-3
 cut-requires-3 c κs = search needs
 
 returns-4 : tie.Need-returns-4
-returns-4 c =
-    let a = c .before .before .before .before .before .before .before .args in
-    ap refused (c .cut3 .ensures) ∙ count-cut (a .d .now) (a .stop) (a .extras) (omega arith) (omega arith) (omega arith) (omega arith)
+returns-4 c = search count-cut
 
 read-address-requires : tie.Need-read-address-requires
 read-address-requires c κs = search needs
@@ -47,9 +38,7 @@ be32-requires : tie.Need-be32-requires
 be32-requires c κs = search needs
 
 returns-5 : tie.Need-returns-5
-returns-5 c =
-    let a = c .before .before .before .before .before .before .before .before .args in
-    service-read (a .d .now) (a .stop) (a .extras) (omega arith) (omega arith) (omega arith) (c .before .read-address .ensures) (c .be32 .ensures) (omega arith)
+returns-5 c = search service-read
 
 pub read-service-head-spec : {M : Type 1} → statement M
 read-service-head-spec =

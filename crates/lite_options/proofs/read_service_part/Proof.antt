@@ -1,14 +1,7 @@
--- `lite_options::read_service_part` meets its contract. One equation for each return. Assumes nothing.
-use Prim.Native.Nat.{ℕ, _+_}
-use mathlib.Core.Path.{sym, ap, _∙_}
-use native.Mathlib.Omega.{arith}
-use lib.ListN.{length}
-use Rattle.reference.specs.Layout.{tag-service}
-use Rattle.reference.specs.Steps.{ok, refused}
-use Rattle.reference.proofs.Heads.{part-cut, part-wrong, part-over, part-read}
-use Rattle.reference.specs.Places.{place-service-header, place-service-tag}
-use Rattle.lite_options.proofs.Beginning.{part-no, part-data}
+-- `lite_options::read_service_part` meets its contract. Each return is a case of the definition. Assumes nothing.
 use borrow.Author.Needs.{needs}
+use Rattle.components.proofs.Header.{header-cut, tag-wrong, data-over}
+use Rattle.lite_options.proofs.Beginning.{part-no, part-data}
 use Rattle.lite_options.proofs.read_service_part.Statement.{statement}
 use Rattle.lite_options.proofs.read_service_part.Tie as tie
 
@@ -16,9 +9,7 @@ cut-requires : tie.Need-cut-requires
 cut-requires c κs = search needs
 
 returns : tie.Need-returns
-returns c =
-    let a = c .before .before .before .args in
-    ap refused (c .cut .ensures) ∙ part-no (a .d .now) (length (a .d .now)) (a .extras) (part-cut 4 tag-service place-service-header place-service-tag (a .d .now) 2 (length (a .d .now)) (omega arith))
+returns c = part-no _ _ _ (search (header-cut 4))
 
 be32-requires : tie.Need-be32-requires
 be32-requires c κs = search needs
@@ -27,12 +18,7 @@ wrong-requires : tie.Need-wrong-requires
 wrong-requires c κs = search needs
 
 returns-2 : tie.Need-returns-2
-returns-2 c =
-    let b = c .before .before in
-    let a = b .before .before .before .args in
-    ap refused (c .wrong .ensures)
-    ∙ part-no (a .d .now) (length (a .d .now)) (a .extras)
-    (part-wrong 4 tag-service place-service-header place-service-tag (a .d .now) 2 (length (a .d .now)) (omega arith) (λ h. c .before .if2 .taken (b .be32 .ensures ∙ h)))
+returns-2 c = part-no _ _ _ (search (tag-wrong 4))
 
 be32-requires-2 : tie.Need-be32-requires-2
 be32-requires-2 c κs = search needs
@@ -44,11 +30,7 @@ too-long-requires : tie.Need-too-long-requires
 too-long-requires c κs = search needs
 
 returns-3 : tie.Need-returns-3
-returns-3 c =
-    let b = c .before .before in
-    let a = b .before .before .before .before .before .args in
-    rw (c .too-long .ensures, b .be322 .ensures)
-    (part-no (a .d .now) (length (a .d .now)) (a .extras) (part-over 4 tag-service place-service-header place-service-tag (a .d .now) 2 (length (a .d .now)) (omega arith) (omega arith) (omega arith)))
+returns-3 c = part-no _ _ _ (search (data-over 4))
 
 add-read-service-head : tie.Need-add-read-service-head
 add-read-service-head c = search needs
@@ -57,12 +39,7 @@ read-service-head-requires : tie.Need-read-service-head-requires
 read-service-head-requires c κs = search needs
 
 returns-4 : tie.Need-returns-4
-returns-4 c =
-    let b = c .before .before in
-    let a = b .before .before .before .before .before .args in
-    let e = part-read 4 tag-service place-service-header place-service-tag (a .d .now) 2 (length (a .d .now)) (omega arith) (omega arith) (omega arith) in
-    c .read-service-head .ensures
-    ∙ part-data (a .d .now) (length (a .d .now)) (a .extras) (e ∙ ap (λ (n : ℕ). ok (10 + n) 10) (sym (b .be322 .ensures)))
+returns-4 c = let b = c .before .before in part-data _ _ _ (b .before .before .be32 .ensures) (search needs) (search needs) (b .be322 .ensures) (search needs) (c .read-service-head .ensures)
 
 pub read-service-part-spec : {M : Type 1} → statement M
 read-service-part-spec =
