@@ -35,7 +35,7 @@ stores-opaque at t i u tag s {e} l p =
 
 -- ---- what a caller knows
 
-followed-seen : {A B : Type 0} (f : A → B) (x : Answer A) → seen f x ≡ followed x (λ a n. ok (f a) n)
+pub followed-seen : {A B : Type 0} (f : A → B) (x : Answer A) → seen f x ≡ followed x (λ a n. ok (f a) n)
 followed-seen f (ok a n) = refl
 followed-seen f (refused y) = refl
 

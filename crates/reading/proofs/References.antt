@@ -1,142 +1,155 @@
--- A reference is what stands before its profiles, the profiles, and the checks behind them: one equation for each case of the code.
--- Assumes nothing.
-use Prim.Native.Nat.{ℕ, zero, suc, _+_, _-_, _%_, _≤_}
-use mathlib.Core.Path.{_≡_, refl, sym, ap, _∙_}
-use mathlib.Core.Bool.{Bool, true, false, not}
-use mathlib.Core.List.{List, [], _∷_}
+-- A reference is what stands before its profiles, the profiles, and the checks behind them: one law for each case of the code, and what is left once a
+-- refused table is cleared. The premises are what the code knows there, so that a proof only names the law. Assumes nothing.
+use Prim.Native.Nat.{ℕ, _+_, _≤_}
+use mathlib.Core.Path.{_≡_, refl, sym, ap, _∙_, subst}
+use mathlib.Core.Bool.{Bool, true, false}
+use mathlib.Core.List.{List}
 use native.Mathlib.Omega.{arith}
-use lib.Dec.{T, ltb, nltb→le, eqb}
-use lib.ListN.{length}
-use Rattle.octets.specs.Octets.{be, part}
-use Rattle.octets.proofs.Part.{length-part}
+use mir.Syntax.{w8}
+use mir.Val.{Fits}
+use lib.Dec.{ltb, nltb→le, eqb}
+use lib.ListN.{length, getD, replicate}
+use Rattle.octets.specs.Octets.{splice}
 use Rattle.reference.specs.declared.Refusal.{Refusal}
+use Rattle.reference.specs.declared.View.{View}
 use Rattle.reference.specs.declared.Check.{Check}
 use Rattle.reference.specs.declared.Check.the-variants.{Pass, Refuse}
+use Rattle.reference.specs.declared.Answer.{Answer as Told}
+use Rattle.reference.specs.declared.Answer.the-variants.{Count, Refused}
 use Rattle.reference.specs.Meaning.{Profile, Reference, tapsOf, namesOf, extrasOf, sum}
-use Rattle.reference.specs.Places.{place-reference-fixed, place-type-id-length, place-profile-count, place-reference-leftover, place-profiles, place-taps, place-names, place-extras}
-use Rattle.reference.specs.Refusals.{refusal, cutAt, longAt, leftAt, wrongAt}
-use Rattle.reference.specs.Steps.{Answer, ok, refused, Reader, pick, followed, need, number, checked, run, after, done, many}
-use Rattle.reference.specs.Reader.{roomy, readCount, readProfile}
-use Rattle.reference.specs.Heads.{Head, readHead}
-use Rattle.reference.proofs.Laws.{guard-ok, pass-ok, followed-ok}
-use Rattle.reference.proofs.Steps.{then-same}
-use Rattle.reference.proofs.Heads.{leading-cut, whole-cut}
-use Rattle.reference.proofs.Accept.{small-ok}
-use Rattle.reading.specs.Open.{opening, roomCheck, endCheck, unless, readAs}
+use Rattle.reference.specs.Steps.{Answer, ok, refused, followed, seen, many}
+use Rattle.reference.specs.Reader.{readProfile, answered}
+use Rattle.reference.specs.Placed.{view, profilesAt}
+use Rattle.reference.proofs.Laws.{guard-ok, pass-ok, reads-many}
+use Rattle.reference.proofs.Parts.{profile-reads}
+use Rattle.reference.proofs.Steps.{guarded-then, passed-then, seen-ok, seen-no}
+use Rattle.reference.proofs.Heads.{profilesBehind, leading-cut, whole-cut}
+use Rattle.table.specs.declared.Counts.{Counts}
+use Rattle.table.specs.Flat.{frontNumbers, tableSize}
+use Rattle.table.specs.Filed.{referenceFiled}
+use Rattle.components.specs.Told.{Filled}
+use Rattle.components.proofs.Moves.{octets-of-slice}
+use Rattle.reading.specs.declared.HeadRead.{HeadRead}
+use Rattle.reading.specs.declared.HeadRead.the-variants as Heads
+use Rattle.reading.specs.declared.ProfilesRead.{ProfilesRead}
+use Rattle.reading.specs.declared.ProfilesRead.the-variants as Ways
+use Rattle.reading.specs.Open.{opening, HeadSeen, headSeen, headTold, headInside, HeadIn, rooms, ends, nothing, checkTold, readAs}
+use Rattle.reading.specs.Stored.{profilesTold, allFilled, StoresProfiles, openTold, Leaves}
+use Rattle.reading.specs.Into.{tableLeft, ReadInto}
+use Rattle.reading.proofs.Bodies.{followed-seen}
 
--- ---- 7 comes last, in either reading
+-- ---- the checks behind the profiles
 
-limits : {A : Type 0} (p t n e : Bool) (w x y z : Refusal) (a : A) (next : ℕ)
-    → pick p (refused w) (pick t (refused x) (pick n (refused y) (pick e (refused z) (ok a next))))
-    ≡ unless (pick p (Refuse w) (pick t (Refuse x) (pick n (Refuse y) (pick e (Refuse z) Pass)))) a next
-limits true t n e w x y z a next = refl
-limits false true n e w x y z a next = refl
-limits false false true e w x y z a next = refl
-limits false false false true w x y z a next = refl
-limits false false false false w x y z a next = refl
+-- what follows an answer comes after them
+ends-then : {A B : Type 0} (whole : Bool) (next end p t n e : ℕ) (x : Answer A) (f : A → ℕ → Answer B) → followed (ends whole next end p t n e x) f ≡ ends whole next end p t n e (followed x f)
+unfolding ends
+ends-then true next end p t n e x f = simp (guarded-then, passed-then)
+ends-then false next end p t n e x f = simp guarded-then
 
--- the check of a reference that ends at next
-abbrev pub endOf : Bool → ℕ → List Profile → ℕ → Check
-endOf whole end l next = endCheck whole next end (length l) (sum tapsOf l) (sum namesOf l) (sum extrasOf l)
+rooms-fit : (p t n e : ℕ) → rooms p t n e nothing ≡ nothing → (p ≤ 8) × (t ≤ 36) × (n ≤ 32) × (e ≤ 32)
+rooms-fit p t n e q =
+    let (a, f) = guard-ok (ltb 8 p) _ _ q in
+    let (b, g) = guard-ok (ltb 36 t) _ _ f in
+    let (c, h) = guard-ok (ltb 32 n) _ _ g in
+    (nltb→le 8 p a, nltb→le 36 t b, nltb→le 32 n c, nltb→le 32 e (guard-ok (ltb 32 e) _ _ h .0))
 
-roomy-checked : (m : Reference) (next : ℕ) → roomy m next ≡ unless (roomCheck (length (m .profiles)) (sum tapsOf (m .profiles)) (sum namesOf (m .profiles)) (sum extrasOf (m .profiles))) m next
-roomy-checked m next =
-    limits (ltb 8 (length (m .profiles))) (ltb 36 (sum tapsOf (m .profiles))) (ltb 32 (sum namesOf (m .profiles))) (ltb 32 (sum extrasOf (m .profiles)))
-    (refusal 7 place-profiles (length (m .profiles)) 8) (refusal 7 place-taps (sum tapsOf (m .profiles)) 36) (refusal 7 place-names (sum namesOf (m .profiles)) 32) (refusal 7 place-extras (sum extrasOf (m .profiles)) 32) m next
+ends-fit : (whole : Bool) (next end p t n e : ℕ) → ends whole next end p t n e nothing ≡ nothing → (p ≤ 8) × (t ≤ 36) × (n ≤ 32) × (e ≤ 32)
+unfolding ends
+ends-fit true next end p t n e q = rooms-fit p t n e (pass-ok (eqb next end) _ _ q .1)
+ends-fit false next end p t n e q = rooms-fit p t n e q
 
-left-checked : (b : Bool) (x : Refusal) (c : Check) (m : Reference) (next : ℕ) → roomy m next ≡ unless c m next
-    → followed (pick b (ok m next) (refused x)) roomy ≡ unless (pick b c (Refuse x)) m next
-left-checked true x c m next e = e
-left-checked false x c m next e = refl
+module _ (whole : Bool) (last end p t n e : ℕ) (r : Check) (told : checkTold r ≡ ends whole last end p t n e nothing) where
+  pub end-fits : r ≡ Pass → (p ≤ 8) × (t ≤ 36) × (n ≤ 32) × (e ≤ 32)
+  end-fits q = ends-fit whole last end p t n e (sym told ∙ ap checkTold q)
 
--- the profiles behind the head h, and the checks behind them
-abbrev pub behind : Bool → List ℕ → Head → ℕ → Answer Reference
-behind whole d h next =
-    followed (many (h .count) readProfile d next (length d)) (λ l last. unless (endOf whole (length d) l last) (record { typeId = h .typeId; profiles = l }) last)
+  module _ (s : List ℕ) where
+    ended : {k : Check} → r ≡ k → followed (checkTold k) (λ _ _. ok s last) ≡ ends whole last end p t n e (ok s last)
+    ended q = ap (λ (k : Check). followed (checkTold k) (λ _ _. ok s last)) (sym q) ∙ ap (λ y. followed y (λ _ _. ok s last)) told ∙ ends-then whole last end p t n e nothing _
 
-pub reading-opened : (whole : Bool) (d : List ℕ) → readAs whole d ≡ followed (opening d) (behind whole d)
-unfolding endCheck
-reading-opened true d =
-    whole-cut d
-    ∙ then-same (opening d) (λ h next. then-same (many (h .count) readProfile d next (length d))
-    (λ l last. left-checked (eqb last (length d)) _ _ (record { typeId = h .typeId; profiles = l }) last (roomy-checked (record { typeId = h .typeId; profiles = l }) last)))
-reading-opened false d =
-    leading-cut d ∙ then-same (opening d) (λ h next. then-same (many (h .count) readProfile d next (length d)) (λ l last. roomy-checked (record { typeId = h .typeId; profiles = l }) last))
+    pub end-refused : {x : Refusal} {left : List ℕ} → r ≡ Refuse x → Leaves (ends whole last end p t n e (ok s last)) left (Refused x)
+    end-refused q = record { told = ended q }
 
--- a reading, by the cases of the code
-module _ (whole : Bool) (d : List ℕ) where
-  pub reading-unopened : {x : Refusal} → opening d ≡ refused x → readAs whole d ≡ refused x
-  reading-unopened e = reading-opened whole d ∙ ap (λ (y : Answer Head). followed y (behind whole d)) e
+    pub end-passed : {left : List ℕ} → r ≡ Pass → left ≡ s → Leaves (ends whole last end p t n e (ok s last)) left (Count last)
+    end-passed q f = record { told = ap (λ (y : List ℕ). ok y last) f ∙ ended q }
 
-  module _ {h : Head} {next : ℕ} (e : opening d ≡ ok h next) where
-    opened-behind : readAs whole d ≡ behind whole d h next
-    opened-behind = reading-opened whole d ∙ ap (λ (y : Answer Head). followed y (behind whole d)) e
+-- ---- the whole reading
 
-    abbrev ending-behind : List Profile → ℕ → Answer Reference
-    ending-behind l last = unless (endOf whole (length d) l last) (record { typeId = h .typeId; profiles = l }) last
+-- the checks of a reference that ends at last
+abbrev asked : Bool → List ℕ → Reference → ℕ → Answer Reference
+asked whole d m last = ends whole last (length d) (length (m .profiles)) (sum tapsOf (m .profiles)) (sum namesOf (m .profiles)) (sum extrasOf (m .profiles)) (ok m last)
 
-    pub reading-unread : {x : Refusal} → many (h .count) readProfile d next (length d) ≡ refused x → readAs whole d ≡ refused x
-    reading-unread q = opened-behind ∙ ap (λ (y : Answer (List Profile)). followed y ending-behind) q
+reading-opened : (whole : Bool) (d : List ℕ) → readAs whole d ≡ followed (opening d) (profilesBehind (asked whole d) d)
+unfolding ends
+reading-opened true d = simp (whole-cut, passed-then)
+reading-opened false d = leading-cut d
 
-    pub reading-checked : {l : List Profile} {last : ℕ} → many (h .count) readProfile d next (length d) ≡ ok l last
-        → readAs whole d ≡ unless (endOf whole (length d) l last) (record { typeId = h .typeId; profiles = l }) last
-    reading-checked q = opened-behind ∙ ap (λ (y : Answer (List Profile)). followed y ending-behind) q
+module _ (whole : Bool) (d t : List ℕ) (r : HeadRead) (o : HeadIn d r) where
+  abbrev Left : List ℕ → Told → Type 0
+  Left e v = Leaves (seen (referenceFiled t) (readAs whole d)) e v
 
--- ---- what an accepted part tells
+  pub no-head : {x : Refusal} {e : List ℕ} → r ≡ Heads.Not x → Left e (Refused x)
+  no-head q = record { told = rw (reading-opened whole d, seen-no headSeen (opening d) (sym (o .told) ∙ ap headTold q)) }
 
-pub many-length : {A : Type 0} (r : Reader A) (d : List ℕ) (end n pos : ℕ) {l : List A} {last : ℕ} → many n r d pos end ≡ ok l last → length l ≡ n
-unfolding many
-many-length r d end zero pos {l} e = let z : [] ≡ l = cc in ap length (sym z)
-many-length r d end (suc n) pos {l} {last} e =
-    let (a, next, p, q) = followed-ok (r d pos end) _ e in
-    let (xs, m, s, t) = followed-ok (many n r d next end) _ q in
-    let z : a ∷ xs ≡ l = cc in
-    ap length (sym z) ∙ ap suc (many-length r d end n next s)
+  module _ {v : View} {count next : ℕ} (q : r ≡ Heads.Got v count next) where
+    opened : (i : List ℕ) × (opening d ≡ ok (record { typeId = i; count = count }) next) × (v ≡ view 4 i)
+    opened =
+        let (h, e, s) = seen-ok headSeen (opening d) (sym (o .told) ∙ ap headTold q) in
+        let n = ap (λ (x : HeadSeen). x .count) (sym s) in
+        (h .typeId, e ∙ (λ j. ok (record { typeId = h .typeId; count = n j }) next), ap (λ (x : HeadSeen). x .typeId) s)
 
-pub opening-next : (d : List ℕ) {h : Head} {next : ℕ} → opening d ≡ ok h next → (length d ≤ 65535) × (next ≤ length d) × (next ≡ 4 + length (h .typeId) + 4)
-unfolding readHead readCount need number checked run after done
-opening-next d {h} {next} e =
-    let long = be (part d 0 4) in
-    let (small, ea) = small-ok d _ e in
-    let (b, eb) = guard-ok (ltb (length d) 8) (cutAt place-reference-fixed 0 8 (length d)) _ ea in
-    let (c, ec) = pass-ok (eqb (long % 4) 0) _ (wrongAt 4 place-type-id-length) eb in
-    let (f, ef) = guard-ok (ltb (length d - 4) long) (longAt 4 long (length d)) _ ec in
-    let (k, m, ek, eh) = followed-ok (pick (ltb (length d) (4 + long + 4)) (refused (cutAt place-profile-count (4 + long) 4 (length d))) (ok (be (part d (4 + long) 4)) (4 + long + 4))) _ ef in
-    let (g, eg) = guard-ok (ltb (length d) (4 + long + 4)) (cutAt place-profile-count (4 + long) 4 (length d)) _ ek in
-    let fits : long ≤ length d - 4 = nltb→le (length d - 4) long f in
-    let room : 4 + long + 4 ≤ length d = nltb→le (length d) (4 + long + 4) g in
-    let p : 4 + long + 4 ≡ m = cc in
-    let q : m ≡ next = cc in
-    let t : part d 4 long ≡ h .typeId = ap (λ (x : Head). x .typeId) (head-of eh) in
-    let n : length (part d 4 long) ≡ long = length-part d 4 long (omega arith) in
-    (small, omega arith, omega (arith, ap length t))
-  where
-    head-of : {x y : Head} {m n : ℕ} → ok x m ≡ ok y n → x ≡ y
-    head-of p = cc
+    bounds : headInside d (Heads.Got v count next)
+    bounds = subst (headInside d) q (o .inside)
 
-room-ok : (p t n e : Bool) (w x y z : Refusal) → pick p (Refuse w) (pick t (Refuse x) (pick n (Refuse y) (pick e (Refuse z) Pass))) ≡ Pass
-    → T (not p) × T (not t) × T (not n) × T (not e)
-room-ok true t n e w x y z q = let f : _≡_ {A = ℕ} 0 1 = cc in absurd (omega arith)
-room-ok false true n e w x y z q = let f : _≡_ {A = ℕ} 0 1 = cc in absurd (omega arith)
-room-ok false false true e w x y z q = let f : _≡_ {A = ℕ} 0 1 = cc in absurd (omega arith)
-room-ok false false false true w x y z q = let f : _≡_ {A = ℕ} 0 1 = cc in absurd (omega arith)
-room-ok false false false false w x y z q = (tt, tt, tt, tt)
+    pub slice-small : length d ≤ 65535
+    slice-small = bounds .0
 
-room-fits : (profiles taps names extras : ℕ) → roomCheck profiles taps names extras ≡ Pass → (profiles ≤ 8) × (taps ≤ 36) × (names ≤ 32) × (extras ≤ 32)
-room-fits p t n e q =
-    let (a, b, c, f) = room-ok (ltb 8 p) (ltb 36 t) (ltb 32 n) (ltb 32 e) (refusal 7 place-profiles p 8) (refusal 7 place-taps t 36) (refusal 7 place-names n 32) (refusal 7 place-extras e 32) q in
-    (nltb→le 8 p a, nltb→le 36 t b, nltb→le 32 n c, nltb→le 32 e f)
+    pub profiles-inside : next ≤ length d
+    profiles-inside = bounds .1
 
--- what unless the last check fits
-pub end-fits : (whole : Bool) (next end profiles taps names extras : ℕ) → endCheck whole next end profiles taps names extras ≡ Pass
-    → (profiles ≤ 8) × (taps ≤ 36) × (names ≤ 32) × (extras ≤ 32)
-unfolding endCheck
-end-fits true next end p t n e q = fits (go (eqb next end) q)
-  where
-    go : (b : Bool) → pick b (roomCheck p t n e) (Refuse (leftAt place-reference-leftover next end)) ≡ Pass → roomCheck p t n e ≡ Pass
-    go true h = h
-    go false h = let f : _≡_ {A = ℕ} 0 1 = cc in absurd (omega arith)
+    module _ {t′ : List ℕ} (w : ProfilesRead) (p : StoresProfiles next t (many count readProfile d next (length d)) t′ w) where
+      pub no-profiles : {x : Refusal} {e : List ℕ} → w ≡ Ways.Not x → Left e (Refused x)
+      no-profiles f = record { told = rw (reading-opened whole d, opened .1, seen-no (allFilled next t) (many count readProfile d next (length d)) (sym (p .told) ∙ ap (profilesTold t′) f)) }
 
-    fits : roomCheck p t n e ≡ Pass → (p ≤ 8) × (t ≤ 36) × (n ≤ 32) × (e ≤ 32)
-    fits h = room-fits p t n e h
-end-fits false next end p t n e q = room-fits p t n e q
+      module _ {u : Counts} {last : ℕ} (f : w ≡ Ways.Got u last) (octs : (k : ℕ) → Fits w8 (getD d k 0)) where
+        -- the profiles end inside, are as many as the head says, and are filed
+        read : (l : List Profile) × (many count readProfile d next (length d) ≡ ok l last) × (record { table = t′; counts = u } ≡ allFilled next t l) × (last ≤ length d) × (length l ≡ count)
+        read =
+            let (l, e, s) = seen-ok (allFilled next t) _ (sym (p .told) ∙ ap (profilesTold t′) f) in
+            let (found, good) =
+            reads-many profile-reads count .sound d next (length d) (record { octs = octets-of-slice d (λ k. octs k .fits); fits = omega arith; room = omega (arith, profiles-inside) }) l last e in
+            (l, e, s, found .room, good .1)
+
+        pub last-inside : last ≤ length d
+        last-inside = read .3
+
+        -- the front is put over the profiles, if the checks pass
+        pub closed : {e : List ℕ} {k : Told}
+            → Leaves (ends whole last (length d) count (u .taps) (u .names) (u .extras) (ok (splice t′ 0 (frontNumbers v count (u .taps) (u .names) (u .extras))) last)) e k → Left e k
+        closed c =
+            let (i, head, ev) = opened in
+            let (l, profiles, s, _, n) = read in
+            let m : Reference = record { typeId = i; profiles = l } in
+            let at : next ≡ profilesAt m = omega (arith, bounds .2, ap (λ (x : View). x .len) ev) in
+            let whole-read : readAs whole d ≡ asked whole d m last = rw (reading-opened whole d, head, profiles) in
+            let filed : record { table = t′; counts = u } ≡ allFilled (profilesAt m) t l = s ∙ ap (λ (k : ℕ). allFilled k t l) at in
+            record {
+              told =
+                  c .told
+                  ∙ (λ j. ends whole last (length d) (sym n j) (filed j .counts .taps) (filed j .counts .names) (filed j .counts .extras)
+                  (ok (splice (filed j .table) 0 (frontNumbers (ev j) (sym n j) (filed j .counts .taps) (filed j .counts .names) (filed j .counts .extras))) last))
+                  ∙ sym (followed-seen (referenceFiled t) (readAs whole d)
+                  ∙ ap (λ (x : Answer Reference). followed x (λ a n. ok (referenceFiled t a) n)) whole-read ∙ ends-then whole last (length d) _ _ _ _ (ok m last) _);
+            }
+
+-- ---- what is left once a refused table is cleared
+
+module _ (x : Answer Reference) {t e : List ℕ} (r : Told) (h : Leaves (seen (referenceFiled t) x) e r) where
+  pub read-kept : {n : ℕ} → r ≡ Count n → ReadInto x t e (Count n)
+  read-kept q =
+      let (m, p, f) = seen-ok (referenceFiled t) x (sym (h .told) ∙ ap (openTold e) q) in
+      record { answers = rw p; leaves = rw p f }
+
+  pub read-cleared : {y : Refusal} {e′ : List ℕ} → r ≡ Refused y → e′ ≡ replicate tableSize 0 → ReadInto x t e′ (Refused y)
+  read-cleared q z =
+      let p = seen-no (referenceFiled t) x (sym (h .told) ∙ ap (openTold e) q) in
+      record { answers = rw p; leaves = rw p z }

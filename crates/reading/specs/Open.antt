@@ -1,18 +1,19 @@
 -- What the code of a reading tells, in the definition's words: a profile's header; what stands before the profiles; what is checked behind them.
 -- Assumes nothing.
-use Prim.Native.Nat.{ℕ, _+_}
+use Prim.Native.Nat.{ℕ, _+_, _≤_}
+use mathlib.Core.Path.{_≡_}
 use mathlib.Core.Bool.{Bool, true, false}
 use mathlib.Core.List.{List}
-use lib.Dec.{ltb, eqb}
+use lib.Dec.{eqb}
 use lib.ListN.{length}
 use Rattle.reference.specs.declared.View.{View}
 use Rattle.reference.specs.declared.Check.{Check}
 use Rattle.reference.specs.declared.Check.the-variants.{Pass, Refuse}
 use Rattle.reference.specs.Meaning.{Reference}
 use Rattle.reference.specs.Places.{place-reference-leftover, place-profiles, place-taps, place-names, place-extras}
-use Rattle.reference.specs.Refusals.{refusal, leftAt}
-use Rattle.reference.specs.Steps.{Answer, ok, refused, pick}
-use Rattle.reference.specs.Reader.{small, readLeading, readWhole}
+use Rattle.reference.specs.Refusals.{leftAt}
+use Rattle.reference.specs.Steps.{Answer, ok, refused, pick, seen}
+use Rattle.reference.specs.Reader.{small, limit, readLeading, readWhole}
 use Rattle.reference.specs.Heads.{Header, Head, readHead}
 use Rattle.reference.specs.Placed.{view}
 use Rattle.reading.specs.declared.HeaderRead.{HeaderRead}
@@ -41,23 +42,32 @@ abbrev pub headTold : HeadRead → Answer HeadSeen
 headTold (Heads.Got v c next) = ok (record { typeId = v; count = c }) next
 headTold (Heads.Not x) = refused x
 
--- ---- what is checked behind the profiles: leftover octets, if the whole slice is read, and then 7 for the first table that is too small
+-- the profiles stand inside, and where the type id ends
+abbrev pub headInside : List ℕ → HeadRead → Type 0
+headInside d (Heads.Got v c next) = (length d ≤ 65535) × (next ≤ length d) × (next ≡ 4 + v .len + 4)
+headInside d (Heads.Not x) = Unit {0}
 
-abbrev pub most : ℕ → ℕ → ℕ → Check → Check
-most size place n c = pick (ltb size n) (Refuse (refusal 7 place n size)) c
+pub record HeadIn (d : List ℕ) (r : HeadRead) : Type 0 where
+  pub told : headTold r ≡ seen headSeen (opening d)
+  pub inside : headInside d r
 
-abbrev pub roomCheck : ℕ → ℕ → ℕ → ℕ → Check
-roomCheck profiles taps names extras = most 8 place-profiles profiles (most 36 place-taps taps (most 32 place-names names (most 32 place-extras extras Pass)))
+-- ---- what is checked behind the profiles, before an answer: leftover octets, if the whole slice is read, and then 7 for the first table that is too
+-- small
 
-unfoldable pub endCheck : Bool → ℕ → ℕ → ℕ → ℕ → ℕ → ℕ → Check
-endCheck true next end profiles taps names extras =
-    pick (eqb next end) (roomCheck profiles taps names extras) (Refuse (leftAt place-reference-leftover next end))
-endCheck false next end profiles taps names extras = roomCheck profiles taps names extras
+abbrev pub rooms : {A : Type 0} → ℕ → ℕ → ℕ → ℕ → Answer A → Answer A
+rooms profiles taps names extras x = limit 8 place-profiles profiles (limit 36 place-taps taps (limit 32 place-names names (limit 32 place-extras extras x)))
 
--- the answer, unless the check refuses
-abbrev pub unless : {A : Type 0} → Check → A → ℕ → Answer A
-unless Pass a n = ok a n
-unless (Refuse x) a n = refused x
+unfoldable pub ends : {A : Type 0} → Bool → ℕ → ℕ → ℕ → ℕ → ℕ → ℕ → Answer A → Answer A
+ends true next end profiles taps names extras x = pick (eqb next end) (rooms profiles taps names extras x) (refused (leftAt place-reference-leftover next end))
+ends false next end profiles taps names extras x = rooms profiles taps names extras x
+
+-- a check by itself: nothing is answered
+abbrev pub nothing : Answer (Unit {0})
+nothing = ok tt 0
+
+abbrev pub checkTold : Check → Answer (Unit {0})
+checkTold Pass = nothing
+checkTold (Refuse x) = refused x
 
 -- ---- the two readings in one
 

@@ -1,15 +1,13 @@
--- What the parts of a reading leave in a lent table, and what they answer: profiles, the checks behind them, a reference. Assumes nothing.
+-- What the parts of a reading leave in a lent table, and what they answer: profiles, a reference. Assumes nothing.
 use Prim.Native.Nat.{ℕ}
 use mathlib.Core.Path.{_≡_}
 use mathlib.Core.List.{List}
 use Rattle.reference.specs.declared.Answer.{Answer as Told}
 use Rattle.reference.specs.declared.Answer.the-variants.{Count, Refused}
-use Rattle.reference.specs.declared.Check.{Check}
-use Rattle.reference.specs.Meaning.{Profile, Reference, tapsOf, namesOf, extrasOf, sum}
+use Rattle.reference.specs.Meaning.{Profile, tapsOf, namesOf, extrasOf, sum}
 use Rattle.reference.specs.Steps.{Answer, ok, refused, seen}
-use Rattle.table.specs.Filed.{profilesFiled, noCounts, referenceFiled}
+use Rattle.table.specs.Filed.{profilesFiled, noCounts}
 use Rattle.components.specs.Told.{Filled}
-use Rattle.reading.specs.Open.{unless}
 use Rattle.reading.specs.declared.ProfilesRead.{ProfilesRead}
 use Rattle.reading.specs.declared.ProfilesRead.the-variants as Ways
 
@@ -31,16 +29,12 @@ allFilled at t l =
 pub record StoresProfiles (at : ℕ) (t : List ℕ) (x : Answer (List Profile)) (e : List ℕ) (v : ProfilesRead) : Type 0 where
   pub told : profilesTold e v ≡ seen (allFilled at t) x
 
--- ---- behind the profiles: the check, and the table that is left if it passes
+-- ---- a reference, and what is checked behind its profiles: the table is still open where it is refused
 
 abbrev pub openTold : List ℕ → Told → Answer (List ℕ)
 openTold e (Count n) = ok e n
 openTold e (Refused x) = refused x
 
-pub record Closes (c : Check) (t : List ℕ) (last : ℕ) (e : List ℕ) (r : Told) : Type 0 where
-  pub told : openTold e r ≡ unless c t last
-
--- ---- a reference, its table still open where it is refused
-
-pub record StoresReference (x : Answer Reference) (t e : List ℕ) (r : Told) : Type 0 where
-  pub told : openTold e r ≡ seen (referenceFiled t) x
+-- A reading that should answer x, with the table that it leaves, left e and answered r.
+pub record Leaves (x : Answer (List ℕ)) (e : List ℕ) (r : Told) : Type 0 where
+  pub told : openTold e r ≡ x

@@ -4,13 +4,14 @@ ghost use mathlib.Core.Path.{_≡_};
 ghost use Prim.Native.Nat.{_+_, _≤_};
 ghost use lib.ListN.{length};
 ghost use Rattle.octets.specs.Octets.{splice};
-ghost use Rattle.reference.specs.Steps.{seen, many};
+ghost use Rattle.reference.specs.Steps.{ok, seen, many};
 ghost use Rattle.reference.specs.Reader.{readBody, readProfile, readLeading, readWhole, answered};
 ghost use Rattle.reference.specs.Heads.{readHeader};
 ghost use Rattle.table.specs.Flat.{frontNumbers, Lent};
+ghost use Rattle.table.specs.Filed.{referenceFiled};
 ghost use Rattle.components.specs.Told.{StoresBody};
-ghost use Rattle.reading.specs.Open.{headerTold, opening, headSeen, headTold, roomCheck, endCheck, readAs};
-ghost use Rattle.reading.specs.Stored.{StoresProfiles, Closes, StoresReference};
+ghost use Rattle.reading.specs.Open.{headerTold, HeadIn, rooms, ends, nothing, checkTold, readAs};
+ghost use Rattle.reading.specs.Stored.{StoresProfiles, Leaves};
 ghost use Rattle.reading.specs.Into.{ReadInto};
 use biop::read_biop;
 use by_value::tables_of;
@@ -91,7 +92,7 @@ enum HeadRead {
 }
 
 fn read_head(d: &[u8]) -> HeadRead
-    ensures { λ r. ⌜ headTold r ≡ seen headSeen (opening (now (d .entry))) ⌝ }
+    ensures { λ r. ⌜ HeadIn (now (d .entry)) r ⌝ }
 {
     let end = d.len();
     if MOST < end {
@@ -131,7 +132,7 @@ fn read_head(d: &[u8]) -> HeadRead
 
 // 7 for the first of profiles, taps, names, extras that does not fit.
 fn check_room(profiles: usize, taps: usize, names: usize, extras: usize) -> Check
-    ensures { λ r. ⌜ r ≡ roomCheck profiles taps names extras ⌝ }
+    ensures { λ r. ⌜ checkTold r ≡ rooms profiles taps names extras nothing ⌝ }
 {
     if PROFILES < profiles {
         return Check::Refuse(too_many(PLACE_PROFILES, profiles, PROFILES));
@@ -159,7 +160,7 @@ fn check_end(
     extras: usize,
 ) -> Check
     requires { ⌜ next ≤ end ⌝ }
-    ensures { λ r. ⌜ r ≡ endCheck whole next end profiles taps names extras ⌝ }
+    ensures { λ r. ⌜ checkTold r ≡ ends whole next end profiles taps names extras nothing ⌝ }
 {
     if whole && next != end {
         return Check::Refuse(left_over(PLACE_REFERENCE_LEFTOVER, next, end));
@@ -236,7 +237,7 @@ fn finish(
     table: &mut [u32],
 ) -> Answer
     requires { ⌜ (last ≤ length (now d)) × Lent (now table) ⌝ }
-    ensures { λ r. ⌜ Closes (endCheck whole last (length (now (d .entry))) count (used .taps) (used .names) (used .extras)) (splice (now (table .entry)) 0 (frontNumbers «type_id» count (used .taps) (used .names) (used .extras))) last (now (table .exit)) r ⌝ }
+    ensures { λ r. ⌜ Leaves (ends whole last (length (now (d .entry))) count (used .taps) (used .names) (used .extras) (ok (splice (now (table .entry)) 0 (frontNumbers «type_id» count (used .taps) (used .names) (used .extras))) last)) (now (table .exit)) r ⌝ }
 {
     let taps = used.taps;
     let names = used.names;
@@ -260,7 +261,7 @@ fn finish(
 // The reference at the start of d; `whole`: nothing may be left over. Of a refused reading the table is open.
 fn read_reference(d: &[u8], whole: bool, table: &mut [u32]) -> Answer
     requires { ⌜ Lent (now table) ⌝ }
-    ensures { λ r. ⌜ StoresReference (readAs whole (now (d .entry))) (now (table .entry)) (now (table .exit)) r ⌝ }
+    ensures { λ r. ⌜ Leaves (seen (referenceFiled (now (table .entry))) (readAs whole (now (d .entry)))) (now (table .exit)) r ⌝ }
 {
     match read_head(d) {
         HeadRead::Not { why } => Answer::Refused(why),

@@ -4,8 +4,8 @@ use mathlib.Core.Logic.{⊎-elim}
 use borrow.Author.Needs.{needs}
 use borrow.Author.Tests.{not-true, not-false}
 use lib.Dec.{eqb}
-use Rattle.reference.specs.declared.Check.the-variants.{Refuse}
-use Rattle.reading.specs.Open.{endCheck}
+use Rattle.reference.specs.Steps.{refused}
+use Rattle.reading.specs.Open.{ends}
 use Rattle.reading.proofs.check_end.Statement.{statement}
 use Rattle.reading.proofs.check_end.Tie as tie
 
@@ -13,16 +13,16 @@ left-over-requires : tie.Need-left-over-requires
 left-over-requires c κs = search needs
 
 returns : tie.Need-returns
-unfolding endCheck
+unfolding ends
 returns c =
     let a = c .before .before .before .args in
-    ap (λ x. Refuse x) (c .left-over .ensures) ∙ simp (c .before .before .if1 .taken, not-true (eqb (a .next) (a .end)) (c .before .if2 .taken))
+    ap refused (c .left-over .ensures) ∙ simp (c .before .before .if1 .taken, not-true (eqb (a .next) (a .end)) (c .before .if2 .taken))
 
 check-room-requires : tie.Need-check-room-requires
 check-room-requires c κs = search needs
 
 returns-2 : tie.Need-returns-2
-unfolding endCheck
+unfolding ends
 returns-2 c =
     let a = c .before .before .args in
     ⊎-elim (λ w. c .check-room .ensures ∙ simp (w .0 .taken, not-false (eqb (a .next) (a .end)) (w .1 .left))) (λ w. c .check-room .ensures ∙ simp (w .left)) (c .before .if1 .came)

@@ -1,18 +1,8 @@
 -- `reading::read_header` meets its contract. Each return is a case of the header's reader. Assumes nothing.
-use mathlib.Core.Path.{sym, ap, ap₂, _∙_}
-use Prim.Native.Nat.{ℕ, _+_}
-use native.Mathlib.Omega.{arith}
 use borrow.Author.Needs.{needs}
-use lib.ListN.{length}
-use Rattle.reference.specs.Steps.{ok, refused}
-use Rattle.reference.specs.Refusals.{longAt}
-use Rattle.reference.specs.Heads.{Header}
-use Rattle.reference.proofs.Heads.{header-cut, header-over, header-read}
+use Rattle.reading.proofs.Headers.{header-cut, header-over, header-read}
 use Rattle.reading.proofs.read_header.Statement.{statement}
 use Rattle.reading.proofs.read_header.Tie as tie
-
-abbrev told : ℕ → ℕ → Header
-told t n = record { tag = t; size = n }
 
 add-data : tie.Need-add-data
 add-data c = search needs
@@ -21,9 +11,7 @@ cut-requires : tie.Need-cut-requires
 cut-requires c κs = search needs
 
 returns : tie.Need-returns
-returns c =
-    let a = c .before .before .before .args in
-    ap refused (c .cut .ensures) ∙ sym (header-cut (a .d .now) (a .pos) (length (a .d .now)) (omega arith))
+returns c = search header-cut
 
 be32-requires : tie.Need-be32-requires
 be32-requires c κs = search needs
@@ -41,18 +29,10 @@ too-long-requires : tie.Need-too-long-requires
 too-long-requires c κs = search needs
 
 returns-2 : tie.Need-returns-2
-returns-2 c =
-    let b = c .before .before in
-    let a = b .before .before .before .before .args in
-    ap refused (c .too-long .ensures ∙ ap (λ (n : ℕ). longAt (a .pos + 8) n (length (a .d .now))) (b .be322 .ensures))
-    ∙ sym (header-over (a .d .now) (a .pos) (length (a .d .now)) (omega arith) (omega arith))
+returns-2 c = search header-over
 
 returns-3 : tie.Need-returns-3
-returns-3 c =
-    let b = c .before in
-    let a = b .before .before .before .before .args in
-    ap₂ (λ (t n : ℕ). ok (told t n) (a .pos + 8)) (b .before .be32 .ensures) (b .be322 .ensures)
-    ∙ sym (header-read (a .d .now) (a .pos) (length (a .d .now)) (omega arith) (omega arith))
+returns-3 c = search header-read
 
 pub read-header-spec : {M : Type 1} → statement M
 read-header-spec =

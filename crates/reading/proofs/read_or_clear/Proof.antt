@@ -1,6 +1,6 @@
 -- `reading::read_or_clear` meets its contract. An accepted table is kept, a refused one is zero. Assumes nothing.
 use borrow.Author.Needs.{needs}
-use Rattle.reading.proofs.Closing.{read-kept, read-cleared}
+use Rattle.reading.proofs.References.{read-kept, read-cleared}
 use Rattle.reading.proofs.read_or_clear.Statement.{statement}
 use Rattle.reading.proofs.read_or_clear.Tie as tie
 
@@ -20,15 +20,13 @@ same-length : tie.Need-same-length
 same-length c = search needs
 
 returns : tie.Need-returns
-returns c = read-kept (c .before .before .before .before .before .read-reference .ensures) (c .before .n .given .1)
+returns c = search read-kept
 
 same-length-2 : tie.Need-same-length-2
 same-length-2 c = search needs
 
 returns-2 : tie.Need-returns-2
-returns-2 c =
-    let w = c .before .before .before .before .before in
-    read-cleared (w .before .before .before .before .read-reference .ensures) (w .why .given .1) (c .before .before .clear .ensures)
+returns-2 c = search read-cleared
 
 pub read-or-clear-spec : {M : Type 1} → statement M
 read-or-clear-spec =
