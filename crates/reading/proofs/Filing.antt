@@ -1,42 +1,54 @@
--- A loop that reads profiles and files each into a lent table: what is left to do does what was to be done. Assumes nothing.
+-- A loop that reads profiles and files each into a lent table: what is left to do does what was to be done. One law for each case of the code, whose
+-- premises are what the code knows there. Assumes nothing.
 use Prim.Native.Nat.{ℕ, suc, _+_, _-_, _<_, _≤_}
 use mathlib.Core.Path.{_≡_, refl, sym, ap, ap₂, _∙_}
 use mathlib.Core.List.{List, [], _∷_}
-use native.Mathlib.Nat.{add-assoc, add-zero, zero-add, sub-zero}
+use native.Mathlib.Nat.{add-assoc, add-zero, sub-zero, add-sub-cancel-left}
 use native.Mathlib.Omega.{arith}
-use lib.ListN.{length}
+use mir.Syntax.{w8}
+use mir.Val.{Fits}
+use lib.ListN.{length, getD}
+use Rattle.octets.specs.Octets.{part}
+use Rattle.octets.proofs.Part.{length-part}
 use Rattle.reference.specs.declared.Refusal.{Refusal}
 use Rattle.reference.specs.Meaning.{Profile, tapsOf, namesOf, extrasOf, sum}
 use Rattle.reference.specs.Layout.{layoutProfile}
-use Rattle.reference.specs.Steps.{Answer, ok, refused, followed, seen, many}
-use Rattle.reference.specs.Reader.{readProfile}
+use Rattle.reference.specs.Steps.{Answer, ok, refused, followed, seen, outward, many}
+use Rattle.reference.specs.Reader.{readBody, readProfile}
+use Rattle.reference.specs.Heads.{readHeader}
+use Rattle.reference.proofs.Heads.{header-known, profile-no, profile-data}
+use Rattle.reference.proofs.Parts.{profile-reads}
+use Rattle.reference.proofs.Steps.{seen-ok, seen-no}
 use Rattle.table.specs.declared.Counts.{Counts}
 use Rattle.table.specs.Flat.{profileRegion, tapRegion, nameRegion, extraRegion, Lent}
 use Rattle.table.specs.Filed.{filed, countsAfter, profileFiled, profilesFiled, noCounts}
 use Rattle.table.proofs.Stored.{stored-none}
 use Rattle.table.proofs.Filed.{profiles-more, filed-length}
-use Rattle.components.specs.Told.{Filled}
-use Rattle.reading.specs.Stored.{allFilled}
+use Rattle.components.specs.declared.BodyRead.{BodyRead}
+use Rattle.components.specs.declared.BodyRead.the-variants as Bodies
+use Rattle.components.specs.Told.{Filled, bodyTold, StoresBody}
+use Rattle.components.proofs.Moves.{octets-of-slice, moved}
+use Rattle.reading.specs.declared.HeaderRead.{HeaderRead}
+use Rattle.reading.specs.declared.HeaderRead.the-variants as Headers
+use Rattle.reading.specs.declared.ProfilesRead.{ProfilesRead}
+use Rattle.reading.specs.declared.ProfilesRead.the-variants as Ways
+use Rattle.reading.specs.Open.{headerTold}
+use Rattle.reading.specs.Stored.{filledFrom, StoresProfiles}
 use Rattle.reading.proofs.Crowd.{taps-below, names-below, extras-below}
 
-filed-none : (t : List ℕ) (i : ℕ) (u : Counts) → filed t i u [] [] [] [] ≡ t
-filed-none t i u = stored-none extraRegion _ (u .extras) ∙ stored-none nameRegion _ (u .names) ∙ stored-none tapRegion _ (u .taps) ∙ stored-none profileRegion t i
+-- an answer told otherwise is followed by one that is told so
+pub followed-seen : {A B : Type 0} (f : A → B) (x : Answer A) → seen f x ≡ followed x (λ a n. ok (f a) n)
+followed-seen f (ok a n) = refl
+followed-seen f (refused y) = refl
 
--- the profiles l become profiles i, i + 1, .. of t; the first stands at offset at
-abbrev behindOf : ℕ → List ℕ → ℕ → Counts → List Profile → Filled
-behindOf at t i u l =
-    record {
-      table = profilesFiled at t i u l;
-      counts = record { taps = u .taps + sum tapsOf l; names = u .names + sum namesOf l; extras = u .extras + sum extrasOf l };
-    }
+filled-none : (at : ℕ) (t : List ℕ) (i : ℕ) (u : Counts) → filledFrom at t i u [] ≡ record { table = t; counts = u }
+filled-none at t i u =
+    let none = stored-none extraRegion _ (u .extras) ∙ stored-none nameRegion _ (u .names) ∙ stored-none tapRegion _ (u .taps) ∙ stored-none profileRegion t i in
+    λ j. record { table = none j; counts = record { taps = add-zero (u .taps) j; names = add-zero (u .names) j; extras = add-zero (u .extras) j } }
 
-behind-none : (at : ℕ) (t : List ℕ) (i : ℕ) (u : Counts) → behindOf at t i u [] ≡ record { table = t; counts = u }
-behind-none at t i u =
-    λ j. record { table = filed-none t i u j; counts = record { taps = add-zero (u .taps) j; names = add-zero (u .names) j; extras = add-zero (u .extras) j } }
-
-behind-more : (at : ℕ) (t : List ℕ) (i : ℕ) (u : Counts) (p : Profile) (l : List Profile) {next : ℕ} → next ≡ at + length (layoutProfile p) → Lent t
-    → behindOf at t i u (p ∷ l) ≡ behindOf next (profileFiled at t i u p) (i + 1) (countsAfter u p) l
-behind-more at t i u p l {next} s h =
+filled-more : (at : ℕ) (t : List ℕ) (i : ℕ) (u : Counts) (p : Profile) (l : List Profile) {next : ℕ} → next ≡ at + length (layoutProfile p) → Lent t
+    → filledFrom at t i u (p ∷ l) ≡ filledFrom next (profileFiled at t i u p) (i + 1) (countsAfter u p) l
+filled-more at t i u p l {next} s h =
     let e = profiles-more at t i u p l h ∙ ap (λ (k : ℕ). profilesFiled k (profileFiled at t i u p) (i + 1) (countsAfter u p) l) (sym s) in
     λ j. record {
       table = e j;
@@ -47,92 +59,111 @@ behind-more at t i u p l {next} s h =
       };
     }
 
-all-behind : (at : ℕ) (t : List ℕ) (l : List Profile) → behindOf at t 0 noCounts l ≡ allFilled at t l
-all-behind at t l =
-    λ j. record {
-      table = profilesFiled at t 0 noCounts l;
-      counts = record { taps = zero-add (sum tapsOf l) j; names = zero-add (sum namesOf l) j; extras = zero-add (sum extrasOf l) j };
-    }
-
-module _ (d : List ℕ) (end : ℕ) where
+module _ (d : List ℕ) where
   -- n to come from pos on, the next of which is profile i of t
-  abbrev leaves : ℕ → ℕ → List ℕ → ℕ → Counts → Answer Filled
-  leaves n pos t i u = seen (behindOf pos t i u) (many n readProfile d pos end)
+  abbrev to-come : ℕ → ℕ → List ℕ → ℕ → Counts → Answer Filled
+  to-come n pos t i u = seen (filledFrom pos t i u) (many n readProfile d pos (length d))
 
-  leaves-end : (pos : ℕ) (t : List ℕ) (i : ℕ) (u : Counts) → leaves 0 pos t i u ≡ ok (record { table = t; counts = u }) pos
+  one-less : (n pos : ℕ) (t : List ℕ) (i : ℕ) (u : Counts) {p : Profile} {next : ℕ} → readProfile d pos (length d) ≡ ok p next → next ≡ pos + length (layoutProfile p) → Lent t
+      → to-come (suc n) pos t i u ≡ to-come n next (profileFiled pos t i u p) (i + 1) (countsAfter u p)
   unfolding many
-  leaves-end pos t i u = ap (λ (x : Filled). ok x pos) (behind-none pos t i u)
-
-  leaves-not : (n pos : ℕ) (t : List ℕ) (i : ℕ) (u : Counts) {x : Refusal} → readProfile d pos end ≡ refused x → leaves (suc n) pos t i u ≡ refused x
-  unfolding many
-  leaves-not n pos t i u e =
-      ap (λ (y : Answer Profile). seen (behindOf pos t i u) (followed y (λ a next. followed (many n readProfile d next end) (λ l last. ok (a ∷ l) last)))) e
-
-  leaves-more : (n pos : ℕ) (t : List ℕ) (i : ℕ) (u : Counts) {p : Profile} {next : ℕ} → readProfile d pos end ≡ ok p next → next ≡ pos + length (layoutProfile p) → Lent t
-      → leaves (suc n) pos t i u ≡ leaves n next (profileFiled pos t i u p) (i + 1) (countsAfter u p)
-  unfolding many
-  leaves-more n pos t i u {p} {next} e s h =
-      ap (λ (y : Answer Profile). seen (behindOf pos t i u) (followed y (λ a next. followed (many n readProfile d next end) (λ l last. ok (a ∷ l) last)))) e
-      ∙ go (many n readProfile d next end)
+  one-less n pos t i u {p} {next} e s h = rw e (go (many n readProfile d next (length d)))
     where
-      go : (y : Answer (List Profile)) → seen (behindOf pos t i u) (followed y (λ l last. ok (p ∷ l) last)) ≡ seen (behindOf next (profileFiled pos t i u p) (i + 1) (countsAfter u p)) y
+      go : (y : Answer (List Profile)) → seen (filledFrom pos t i u) (followed y (λ l last. ok (p ∷ l) last)) ≡ seen (filledFrom next (profileFiled pos t i u p) (i + 1) (countsAfter u p)) y
       go (refused z) = refl
-      go (ok l last) = ap (λ (x : Filled). ok x last) (behind-more pos t i u p l s h)
-
-seen-same : {A B : Type 0} (x : Answer A) (f g : A → B) → ((a : A) → f a ≡ g a) → seen f x ≡ seen g x
-seen-same {A} {B} (ok a n) f g h = ap (λ (b : B). ok b n) (h a)
-seen-same (refused y) f g h = refl
-
--- what the loop is asked for: n profiles from pos on, filed into t from its first profile on
-abbrev asked : List ℕ → ℕ → ℕ → ℕ → List ℕ → Answer Filled
-asked d end n pos t = seen (allFilled pos t) (many n readProfile d pos end)
-
-asked-leaves : (d : List ℕ) (end n pos : ℕ) (t : List ℕ) → asked d end n pos t ≡ leaves d end n pos t 0 noCounts
-asked-leaves d end n pos t = seen-same (many n readProfile d pos end) _ _ (λ l. sym (all-behind pos t l))
+      go (ok l last) = ap (λ (x : Filled). ok x last) (filled-more pos t i u p l s h)
 
 -- after i turns of n: the table, the counts, which stay below the position, and where the next profile stands
-pub record Files (d : List ℕ) (end n pos : ℕ) (t₀ t : List ℕ) (u : Counts) (cur i : ℕ) : Type 0 where
-  pub most : i ≤ n
+pub record Files (d : List ℕ) (n pos : ℕ) (t₀ t : List ℕ) (u : Counts) (cur i : ℕ) : Type 0 where
+  pub inside : cur ≤ length d
   pub long : Lent t
   pub taps : u .taps ≤ cur
   pub names : u .names ≤ cur
   pub extras : u .extras ≤ cur
-  pub same : asked d end n pos t₀ ≡ leaves d end (n - i) cur t i u
+  pub same : to-come d n pos t₀ 0 noCounts ≡ to-come d (n - i) cur t i u
 
-module _ {d : List ℕ} {end n pos : ℕ} {t₀ : List ℕ} where
-  pub begin : Lent t₀ → Files d end n pos t₀ t₀ noCounts pos 0
-  begin h =
-      record {
-        most = omega arith;
-        long = h;
-        taps = omega arith;
-        names = omega arith;
-        extras = omega arith;
-        same = asked-leaves d end n pos t₀ ∙ ap (λ (k : ℕ). leaves d end k pos t₀ 0 noCounts) (sym (sub-zero n));
-      }
+module _ {d : List ℕ} {n pos : ℕ} {t₀ : List ℕ} where
+  pub none-yet : pos ≤ length d → Lent t₀ → Files d n pos t₀ t₀ noCounts pos 0
+  none-yet h l =
+      record { inside = h; long = l; taps = omega arith; names = omega arith; extras = omega arith; same = ap (λ (k : ℕ). to-come d k pos t₀ 0 noCounts) (sym (sub-zero n)) }
 
-  module _ {t : List ℕ} {u : Counts} {cur i : ℕ} (h : Files d end n pos t₀ t u cur i) where
-    pub turn : {p : Profile} {next : ℕ} {t′ : List ℕ} {u′ : Counts} → i < n → readProfile d cur end ≡ ok p next → next ≡ cur + length (layoutProfile p)
-        → t′ ≡ profileFiled cur t i u p → u′ ≡ countsAfter u p → Files d end n pos t₀ t′ u′ next (i + 1)
-    turn {p} {next} {t′} {u′} l e s et eu =
-        let q : n - i ≡ suc (n - (i + 1)) = omega arith in
-        record {
-          most = omega arith;
-          long = ap length et ∙ filed-length t i u _ _ _ _ (h .long);
-          taps = omega (arith, ap (λ (v : Counts). v .taps) eu, taps-below p, h .taps);
-          names = omega (arith, ap (λ (v : Counts). v .names) eu, names-below p, h .names);
-          extras = omega (arith, ap (λ (v : Counts). v .extras) eu, extras-below p, h .extras);
-          same =
-              h .same ∙ ap (λ (j : ℕ). leaves d end j cur t i u) q ∙ leaves-more d end (n - (i + 1)) cur t i u e s (h .long)
-              ∙ ap₂ (λ (x : List ℕ) (v : Counts). leaves d end (n - (i + 1)) next x (i + 1) v) (sym et) (sym eu);
-        }
+  module _ {t : List ℕ} {u : Counts} {cur i : ℕ} (h : Files d n pos t₀ t u cur i) where
+    abbrev Stored : List ℕ → ProfilesRead → Type 0
+    Stored e v = StoresProfiles pos t₀ (many n readProfile d pos (length d)) e v
 
-    pub stop : {x : Refusal} → i < n → readProfile d cur end ≡ refused x → refused x ≡ asked d end n pos t₀
-    stop l e =
-        let q : n - i ≡ suc (n - (i + 1)) = omega arith in
-        sym (h .same ∙ ap (λ (j : ℕ). leaves d end j cur t i u) q ∙ leaves-not d end (n - (i + 1)) cur t i u e)
+    pub few : {k : ℕ} → k ≤ cur → length d ≤ 65535 → k ≤ 65535
+    few a small = omega (arith, h .inside)
 
-    pub finish : n ≤ i → ok (record { table = t; counts = u }) cur ≡ asked d end n pos t₀
-    finish l =
+    pub all-read : n ≤ i → Stored t (Ways.Got u cur)
+    unfolding many
+    all-read l =
         let q : n - i ≡ 0 = omega arith in
-        sym (h .same ∙ ap (λ (j : ℕ). leaves d end j cur t i u) q ∙ leaves-end d end cur t i u)
+        record { told = sym (h .same ∙ ap (λ (j : ℕ). to-come d j cur t i u) q ∙ ap (λ (x : Filled). ok x cur) (filled-none cur t i u)) }
+
+    module _ (r : HeaderRead) (read : headerTold cur r ≡ readHeader d cur (length d)) (l : i < n) where
+      one-left : n - i ≡ suc (n - (i + 1))
+      one-left = omega arith
+
+      refuse : {x : Refusal} {e : List ℕ} → readProfile d cur (length d) ≡ refused x → Stored e (Ways.Not x)
+      unfolding many
+      refuse e = record { told = sym (h .same ∙ rw (one-left, e)) }
+
+      pub no-header : {x : Refusal} {e : List ℕ} → r ≡ Headers.Not x → Stored e (Ways.Not x)
+      no-header q = refuse (profile-no d cur (length d) (sym read ∙ ap (headerTold cur) q))
+
+      module _ {tag len : ℕ} (q : r ≡ Headers.Got tag len) where
+        header : readHeader d cur (length d) ≡ ok (record { tag = tag; size = len }) (cur + 8)
+        header = sym read ∙ ap (headerTold cur) q
+
+        pub data-inside : cur + 8 + len ≤ length d
+        data-inside = header-known d cur (length d) header .1
+
+        -- the data, as the code cuts it out
+        abbrev bytes : List ℕ
+        bytes = part d (cur + 8) (cur + 8 + len - (cur + 8))
+
+        cut-out : (bytes ≡ part d (cur + 8) len) × (length bytes ≡ len)
+        cut-out =
+            let e = ap (λ (k : ℕ). part d (cur + 8) k) (add-sub-cancel-left (cur + 8) len) in
+            (e, ap length e ∙ length-part d (cur + 8) len (omega (arith, data-inside)))
+
+        module _ (small : length d ≤ 65535) where
+          pub next-fits : cur + 8 + len < 18446744073709551616
+          next-fits = omega (arith, data-inside)
+
+          pub data-small : cur + 8 + length bytes ≤ 65535
+          data-small = omega (arith, cut-out .1, data-inside)
+
+        abbrev body : Answer Profile
+        body = readBody tag bytes 0 (length bytes)
+
+        by-body : readProfile d cur (length d) ≡ outward (cur + 8) len body
+        by-body = profile-data d cur (length d) header ∙ (λ j. outward (cur + 8) len (readBody tag (sym (cut-out .0) j) 0 (sym (cut-out .1) j)))
+
+        module _ {t′ : List ℕ} (v : BodyRead) (s : StoresBody cur t i u body (length bytes) t′ v) where
+          abbrev filledWith : Profile → Filled
+          filledWith p = record { table = profileFiled cur t i u p; counts = countsAfter u p }
+
+          kept : {w : BodyRead} → v ≡ w → seen filledWith body ≡ bodyTold (length bytes) t′ w
+          kept f = followed-seen filledWith body ∙ sym (s .told) ∙ ap (bodyTold (length bytes) t′) f
+
+          pub no-body : {x : Refusal} {e : List ℕ} → v ≡ Bodies.Not x → Stored e (Ways.Not x)
+          no-body f = refuse (by-body ∙ ap (outward (cur + 8) len) (seen-no filledWith body (kept f)))
+
+          pub one-more : {u′ : Counts} → ((k : ℕ) → Fits w8 (getD d k 0)) → v ≡ Bodies.Got u′ → Files d n pos t₀ t′ u′ (cur + 8 + len) (i + 1)
+          one-more octs f =
+              let (p, e, g) = seen-ok filledWith body (kept f) in
+              let et = ap (λ (y : Filled). y .table) g in
+              let eu = ap (λ (y : Filled). y .counts) g in
+              let r = by-body ∙ ap (outward (cur + 8) len) e in
+              let (_, span) = moved profile-reads d cur (length d) (octets-of-slice d (λ k. octs k .fits)) (h .inside) (omega arith) r in
+              record {
+                inside = data-inside;
+                long = ap length et ∙ filed-length t i u _ _ _ _ (h .long);
+                taps = omega (arith, ap (λ (v : Counts). v .taps) eu, taps-below p, h .taps);
+                names = omega (arith, ap (λ (v : Counts). v .names) eu, names-below p, h .names);
+                extras = omega (arith, ap (λ (v : Counts). v .extras) eu, extras-below p, h .extras);
+                same =
+                    h .same ∙ ap (λ (j : ℕ). to-come d j cur t i u) one-left ∙ one-less d (n - (i + 1)) cur t i u r span (h .long)
+                    ∙ ap₂ (λ (x : List ℕ) (v : Counts). to-come d (n - (i + 1)) (cur + 8 + len) x (i + 1) v) (sym et) (sym eu);
+              }

@@ -1,10 +1,10 @@
--- The header of a profile, a profile by its header and its body, and what stands before the profiles, one law for each case of the code. The premises
+-- The header of a profile, and what stands before the profiles, one law for each case of the code. The premises
 -- are what the code knows there, so that a proof only names the law. Assumes nothing.
 use Prim.Native.Nat.{ℕ, _+_, _-_, _%_, _<_, _≤_}
-use mathlib.Core.Path.{_≡_, sym, ap, _∙_}
+use mathlib.Core.Path.{_≡_, sym, ap}
 use mathlib.Core.Logic.{_≢_}
 use mathlib.Core.List.{List}
-use native.Mathlib.Nat.{add-assoc, add-sub-cancel-left}
+use native.Mathlib.Nat.{add-assoc}
 use native.Mathlib.Omega.{arith}
 use borrow.Author.Tests.{lt-ltb, le-ltb, eq-eqb, ne-eqb}
 use lib.ListN.{length}
@@ -12,13 +12,11 @@ use Rattle.octets.specs.Octets.{be, part}
 use Rattle.octets.proofs.Part.{length-part}
 use Rattle.reference.specs.declared.Refusal.{Refusal}
 use Rattle.reference.specs.declared.View.{View}
-use Rattle.reference.specs.Meaning.{Profile}
 use Rattle.reference.specs.Places.{place-profile-header, place-reference-fixed, place-type-id-length, place-profile-count}
 use Rattle.reference.specs.Refusals.{refusal, cutAt, longAt, wrongAt}
-use Rattle.reference.specs.Steps.{Answer, ok, refused, outward, need, number, checked, run, fits, after, done}
-use Rattle.reference.specs.Reader.{readCount, readBody, readProfile}
+use Rattle.reference.specs.Steps.{Answer, ok, refused, need, number, checked, run, fits, after, done}
+use Rattle.reference.specs.Reader.{readCount}
 use Rattle.reference.specs.Heads.{Header, readHeader, readHead}
-use Rattle.reference.proofs.Heads.{header-known, profile-data}
 use Rattle.reading.specs.Open.{HeadIn}
 use Rattle.reading.specs.declared.HeadRead.the-variants as Heads
 
@@ -40,25 +38,6 @@ module _ (d : List ℕ) (pos end : ℕ) where
     pub header-read : n ≤ end - (pos + 8) → ok (record { tag = t; size = n }) (pos + 8) ≡ header
     unfolding readHeader need number fits done
     header-read h = simp (add-assoc, ← tag, ← size, le-ltb)
-
--- ---- a profile, once its header is read
-
-module _ (d : List ℕ) (pos end : ℕ) (inside : end ≤ length d) {t n : ℕ} (e : readHeader d pos end ≡ ok (record { tag = t; size = n }) (pos + 8)) where
-  -- the data, as the code cuts it out
-  abbrev bytes : List ℕ
-  bytes = part d (pos + 8) (pos + 8 + n - (pos + 8))
-
-  by-body : readProfile d pos end ≡ outward (pos + 8) n (readBody t bytes 0 (length bytes))
-  by-body =
-      let s : length (part d (pos + 8) n) ≡ n = length-part d (pos + 8) n (omega (arith, header-known d pos end e .1)) in
-      profile-data d pos end e ∙ ap (λ (k : ℕ). outward (pos + 8) n (readBody t (part d (pos + 8) n) 0 k)) (sym s)
-      ∙ ap (λ (k : ℕ). outward (pos + 8) n (readBody t (part d (pos + 8) k) 0 (length (part d (pos + 8) k)))) (sym (add-sub-cancel-left (pos + 8) n))
-
-  pub profile-not : {x : Refusal} → readBody t bytes 0 (length bytes) ≡ refused x → readProfile d pos end ≡ refused x
-  profile-not q = by-body ∙ ap (λ (y : Answer Profile). outward (pos + 8) n y) q
-
-  pub profile-read : {p : Profile} {last : ℕ} → readBody t bytes 0 (length bytes) ≡ ok p last → readProfile d pos end ≡ ok p (pos + 8 + n)
-  profile-read q = by-body ∙ ap (λ (y : Answer Profile). outward (pos + 8) n y) q
 
 -- ---- what stands before the profiles
 

@@ -4,6 +4,7 @@ use Prim.Native.Nat.{ℕ, _+_, _≤_}
 use mathlib.Core.Path.{_≡_, refl, sym, ap, _∙_, subst}
 use mathlib.Core.Bool.{Bool, true, false}
 use mathlib.Core.List.{List}
+use native.Mathlib.Nat.{zero-add}
 use native.Mathlib.Omega.{arith}
 use mir.Syntax.{w8}
 use mir.Val.{Fits}
@@ -26,7 +27,7 @@ use Rattle.reference.proofs.Steps.{guarded-then, passed-then, seen-ok, seen-no}
 use Rattle.reference.proofs.Heads.{profilesBehind, leading-cut, whole-cut}
 use Rattle.table.specs.declared.Counts.{Counts}
 use Rattle.table.specs.Flat.{frontNumbers, tableSize}
-use Rattle.table.specs.Filed.{referenceFiled}
+use Rattle.table.specs.Filed.{profilesFiled, noCounts, referenceFiled}
 use Rattle.components.specs.Told.{Filled}
 use Rattle.components.proofs.Moves.{octets-of-slice}
 use Rattle.reading.specs.declared.HeadRead.{HeadRead}
@@ -34,9 +35,9 @@ use Rattle.reading.specs.declared.HeadRead.the-variants as Heads
 use Rattle.reading.specs.declared.ProfilesRead.{ProfilesRead}
 use Rattle.reading.specs.declared.ProfilesRead.the-variants as Ways
 use Rattle.reading.specs.Open.{opening, HeadSeen, headSeen, headTold, headInside, HeadIn, rooms, ends, nothing, checkTold, readAs}
-use Rattle.reading.specs.Stored.{profilesTold, allFilled, StoresProfiles, openTold, Leaves}
+use Rattle.reading.specs.Stored.{profilesTold, filledFrom, StoresProfiles, openTold, Leaves}
 use Rattle.reading.specs.Into.{tableLeft, ReadInto}
-use Rattle.reading.proofs.Bodies.{followed-seen}
+use Rattle.reading.proofs.Filing.{followed-seen}
 
 -- ---- the checks behind the profiles
 
@@ -108,13 +109,13 @@ module _ (whole : Bool) (d t : List ℕ) (r : HeadRead) (o : HeadIn d r) where
 
     module _ {t′ : List ℕ} (w : ProfilesRead) (p : StoresProfiles next t (many count readProfile d next (length d)) t′ w) where
       pub no-profiles : {x : Refusal} {e : List ℕ} → w ≡ Ways.Not x → Left e (Refused x)
-      no-profiles f = record { told = rw (reading-opened whole d, opened .1, seen-no (allFilled next t) (many count readProfile d next (length d)) (sym (p .told) ∙ ap (profilesTold t′) f)) }
+      no-profiles f = record { told = rw (reading-opened whole d, opened .1, seen-no (filledFrom next t 0 noCounts) (many count readProfile d next (length d)) (sym (p .told) ∙ ap (profilesTold t′) f)) }
 
       module _ {u : Counts} {last : ℕ} (f : w ≡ Ways.Got u last) (octs : (k : ℕ) → Fits w8 (getD d k 0)) where
         -- the profiles end inside, are as many as the head says, and are filed
-        read : (l : List Profile) × (many count readProfile d next (length d) ≡ ok l last) × (record { table = t′; counts = u } ≡ allFilled next t l) × (last ≤ length d) × (length l ≡ count)
+        read : (l : List Profile) × (many count readProfile d next (length d) ≡ ok l last) × (record { table = t′; counts = u } ≡ filledFrom next t 0 noCounts l) × (last ≤ length d) × (length l ≡ count)
         read =
-            let (l, e, s) = seen-ok (allFilled next t) _ (sym (p .told) ∙ ap (profilesTold t′) f) in
+            let (l, e, s) = seen-ok (filledFrom next t 0 noCounts) _ (sym (p .told) ∙ ap (profilesTold t′) f) in
             let (found, good) =
             reads-many profile-reads count .sound d next (length d) (record { octs = octets-of-slice d (λ k. octs k .fits); fits = omega arith; room = omega (arith, profiles-inside) }) l last e in
             (l, e, s, found .room, good .1)
@@ -131,7 +132,9 @@ module _ (whole : Bool) (d t : List ℕ) (r : HeadRead) (o : HeadIn d r) where
             let m : Reference = record { typeId = i; profiles = l } in
             let at : next ≡ profilesAt m = omega (arith, bounds .2, ap (λ (x : View). x .len) ev) in
             let whole-read : readAs whole d ≡ asked whole d m last = rw (reading-opened whole d, head, profiles) in
-            let filed : record { table = t′; counts = u } ≡ allFilled (profilesAt m) t l = s ∙ ap (λ (k : ℕ). allFilled k t l) at in
+            let counts : Counts = record { taps = sum tapsOf l; names = sum namesOf l; extras = sum extrasOf l } in
+            let filed : _≡_ {A = Filled} (record { table = t′; counts = u }) (record { table = profilesFiled (profilesAt m) t 0 noCounts l; counts = counts }) =
+            s ∙ (λ j. record { table = profilesFiled (at j) t 0 noCounts l; counts = record { taps = zero-add (counts .taps) j; names = zero-add (counts .names) j; extras = zero-add (counts .extras) j } }) in
             record {
               told =
                   c .told
