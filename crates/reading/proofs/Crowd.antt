@@ -25,20 +25,8 @@ extras-crowd : (l : List Extra) → length l ≤ length (joined (map layoutExtra
 unfolding layoutExtra
 extras-crowd l = crowd layoutExtra (λ e. simp (length-append, length-octets) (omega arith)) l
 
-pub taps-below : (p : Profile) → tapsOf p ≤ length (layoutProfile p)
-unfolding layoutProfile dataOf layoutBiop layoutBinder
-taps-below (biop b) = simp (length-append, length-octets) (omega (arith, taps-crowd (b .taps)))
-taps-below (lite l) = omega arith
-taps-below (opaque t s) = omega arith
-
-pub names-below : (p : Profile) → namesOf p ≤ length (layoutProfile p)
-unfolding layoutProfile dataOf layoutLite layoutService
-names-below (biop b) = omega arith
-names-below (lite l) = simp (length-append, length-octets) (omega (arith, names-crowd (l .service .names)))
-names-below (opaque t s) = omega arith
-
-pub extras-below : (p : Profile) → extrasOf p ≤ length (layoutProfile p)
-unfolding layoutProfile dataOf layoutBiop layoutLite
-extras-below (biop b) = simp (length-append, length-octets) (omega (arith, extras-crowd (b .extras)))
-extras-below (lite l) = simp (length-append, length-octets) (omega (arith, extras-crowd (l .extras)))
-extras-below (opaque t s) = omega arith
+pub entries-below : (p : Profile) → (tapsOf p ≤ length (layoutProfile p)) × (namesOf p ≤ length (layoutProfile p)) × (extrasOf p ≤ length (layoutProfile p))
+unfolding layoutProfile dataOf layoutBiop layoutBinder layoutLite layoutService
+entries-below (biop b) = simp (length-append, length-octets) (omega (arith, taps-crowd (b .taps), extras-crowd (b .extras)))
+entries-below (lite l) = simp (length-append, length-octets) (omega (arith, names-crowd (l .service .names), extras-crowd (l .extras)))
+entries-below (opaque t s) = omega arith

@@ -21,7 +21,7 @@ use Rattle.reference.proofs.Parts.{profile-reads}
 use Rattle.reference.proofs.Steps.{seen-ok, seen-no}
 use Rattle.table.specs.declared.Counts.{Counts}
 use Rattle.table.specs.Flat.{profileRegion, tapRegion, nameRegion, extraRegion, Lent}
-use Rattle.table.specs.Filed.{filed, countsAfter, profileFiled, profilesFiled, noCounts}
+use Rattle.table.specs.Filed.{countsAfter, profileFiled, profilesFiled, noCounts}
 use Rattle.table.proofs.Stored.{stored-none}
 use Rattle.table.proofs.Filed.{profiles-more, filed-length}
 use Rattle.components.specs.declared.BodyRead.{BodyRead}
@@ -34,7 +34,7 @@ use Rattle.reading.specs.declared.ProfilesRead.{ProfilesRead}
 use Rattle.reading.specs.declared.ProfilesRead.the-variants as Ways
 use Rattle.reading.specs.Open.{headerTold}
 use Rattle.reading.specs.Stored.{filledFrom, StoresProfiles}
-use Rattle.reading.proofs.Crowd.{taps-below, names-below, extras-below}
+use Rattle.reading.proofs.Crowd.{entries-below}
 
 -- an answer told otherwise is followed by one that is told so
 pub followed-seen : {A B : Type 0} (f : A → B) (x : Answer A) → seen f x ≡ followed x (λ a n. ok (f a) n)
@@ -160,9 +160,9 @@ module _ {d : List ℕ} {n pos : ℕ} {t₀ : List ℕ} where
               record {
                 inside = data-inside;
                 long = ap length et ∙ filed-length t i u _ _ _ _ (h .long);
-                taps = omega (arith, ap (λ (v : Counts). v .taps) eu, taps-below p, h .taps);
-                names = omega (arith, ap (λ (v : Counts). v .names) eu, names-below p, h .names);
-                extras = omega (arith, ap (λ (v : Counts). v .extras) eu, extras-below p, h .extras);
+                taps = omega (arith, ap (λ (v : Counts). v .taps) eu, entries-below p, h .taps);
+                names = omega (arith, ap (λ (v : Counts). v .names) eu, entries-below p, h .names);
+                extras = omega (arith, ap (λ (v : Counts). v .extras) eu, entries-below p, h .extras);
                 same =
                     h .same ∙ ap (λ (j : ℕ). to-come d j cur t i u) one-left ∙ one-less d (n - (i + 1)) cur t i u r span (h .long)
                     ∙ ap₂ (λ (x : List ℕ) (v : Counts). to-come d (n - (i + 1)) (cur + 8 + len) x (i + 1) v) (sym et) (sym eu);

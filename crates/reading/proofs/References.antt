@@ -1,7 +1,7 @@
 -- A reference is what stands before its profiles, the profiles, and the checks behind them: one law for each case of the code, and what is left once a
 -- refused table is cleared. The premises are what the code knows there, so that a proof only names the law. Assumes nothing.
-use Prim.Native.Nat.{ℕ, _+_, _≤_}
-use mathlib.Core.Path.{_≡_, refl, sym, ap, _∙_, subst}
+use Prim.Native.Nat.{ℕ, _≤_}
+use mathlib.Core.Path.{_≡_, sym, ap, _∙_, subst}
 use mathlib.Core.Bool.{Bool, true, false}
 use mathlib.Core.List.{List}
 use native.Mathlib.Nat.{zero-add}
@@ -18,8 +18,8 @@ use Rattle.reference.specs.declared.Check.the-variants.{Pass, Refuse}
 use Rattle.reference.specs.declared.Answer.{Answer as Told}
 use Rattle.reference.specs.declared.Answer.the-variants.{Count, Refused}
 use Rattle.reference.specs.Meaning.{Profile, Reference, tapsOf, namesOf, extrasOf, sum}
-use Rattle.reference.specs.Steps.{Answer, ok, refused, followed, seen, many}
-use Rattle.reference.specs.Reader.{readProfile, answered}
+use Rattle.reference.specs.Steps.{Answer, ok, followed, seen, many}
+use Rattle.reference.specs.Reader.{readProfile}
 use Rattle.reference.specs.Placed.{view, profilesAt}
 use Rattle.reference.proofs.Laws.{guard-ok, pass-ok, reads-many}
 use Rattle.reference.proofs.Parts.{profile-reads}
@@ -36,7 +36,7 @@ use Rattle.reading.specs.declared.ProfilesRead.{ProfilesRead}
 use Rattle.reading.specs.declared.ProfilesRead.the-variants as Ways
 use Rattle.reading.specs.Open.{opening, HeadSeen, headSeen, headTold, headInside, HeadIn, rooms, ends, nothing, checkTold, readAs}
 use Rattle.reading.specs.Stored.{profilesTold, filledFrom, StoresProfiles, openTold, Leaves}
-use Rattle.reading.specs.Into.{tableLeft, ReadInto}
+use Rattle.reading.specs.Into.{ReadInto}
 use Rattle.reading.proofs.Filing.{followed-seen}
 
 -- ---- the checks behind the profiles

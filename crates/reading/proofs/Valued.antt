@@ -2,7 +2,9 @@
 use Prim.Native.Nat.{ℕ}
 use mathlib.Core.Path.{_≡_, refl, ap, _∙_}
 use mathlib.Core.List.{List}
-use lib.ListN.{replicate}
+use mir.Syntax.{w8}
+use mir.Val.{Fits}
+use lib.ListN.{getD, replicate}
 use Rattle.octets.specs.Octets.{Octets}
 use Rattle.reference.specs.declared.Tables.{Tables}
 use Rattle.reference.specs.declared.Reading.{Reading}
@@ -13,6 +15,7 @@ use Rattle.reference.specs.Steps.{Answer, ok, refused}
 use Rattle.reference.specs.Reader.{readLeading, readWhole, answered}
 use Rattle.reference.proofs.Accept.{only-accepted, only-whole}
 use Rattle.table.specs.Flat.{tablesFrom, tableSize}
+use Rattle.components.proofs.Moves.{octets-of-slice}
 use Rattle.by_value.proofs.Accepted.{tables-read}
 use Rattle.by_value.proofs.Back.{tables-cleared}
 use Rattle.reading.specs.Into.{tableLeft, ReadInto}
@@ -32,8 +35,15 @@ left-tables : (x : Answer Reference) → ((m : Reference) (n : ℕ) → x ≡ ok
 left-tables (ok m n) good = let g = good m n refl in tables-read m (g .1) (g .0)
 left-tables (refused y) good = tables-cleared
 
-pub valued : (x : Answer Reference) → ((m : Reference) (n : ℕ) → x ≡ ok m n → (WellFormed m) × (Room m)) → {e : List ℕ} {r : Told} {t : Tables} → ReadInto x (replicate tableSize 0) e r → t ≡ tablesFrom e
+valued : (x : Answer Reference) → ((m : Reference) (n : ℕ) → x ≡ ok m n → (WellFormed m) × (Room m)) → {e : List ℕ} {r : Told} {t : Tables} → ReadInto x (replicate tableSize 0) e r → t ≡ tablesFrom e
     → _≡_ {A = Reading} (record { answer = r; tables = t }) (answered x)
 valued x good {e} {r} {t} h q =
     let p = q ∙ ap tablesFrom (h .leaves) ∙ left-tables x good in
     λ j. record { answer = h .answers j; tables = p j }
+
+module _ (d : List ℕ) {e : List ℕ} {r : Told} {t : Tables} (octs : (k : ℕ) → Fits w8 (getD d k 0)) (q : t ≡ tablesFrom e) where
+  pub leading-valued : ReadInto (readLeading d) (replicate tableSize 0) e r → _≡_ {A = Reading} (record { answer = r; tables = t }) (answered (readLeading d))
+  leading-valued h = valued (readLeading d) (leading-good d (octets-of-slice d (λ k. octs k .fits))) h q
+
+  pub whole-valued : ReadInto (readWhole d) (replicate tableSize 0) e r → _≡_ {A = Reading} (record { answer = r; tables = t }) (answered (readWhole d))
+  whole-valued h = valued (readWhole d) (whole-good d (octets-of-slice d (λ k. octs k .fits))) h q

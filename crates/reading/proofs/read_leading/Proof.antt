@@ -1,10 +1,7 @@
 -- `reading::read_leading` meets its contract. An accepted reading is well formed and fits, so that the table of numbers tells its tables. Assumes nothing.
 use mathlib.Core.Path.{refl}
-use native.Mathlib.Omega.{arith}
 use borrow.Author.Needs.{needs}
-use Rattle.reference.specs.Reader.{readLeading}
-use Rattle.components.proofs.Moves.{octets-of-slice}
-use Rattle.reading.proofs.Valued.{leading-good, valued}
+use Rattle.reading.proofs.Valued.{leading-valued}
 use Rattle.reading.proofs.read_leading.Statement.{statement}
 use Rattle.reading.proofs.read_leading.Tie as tie
 
@@ -18,15 +15,10 @@ slice-aggregate-tables-of : tie.Need-slice-aggregate-tables-of
 slice-aggregate-tables-of c = search needs
 
 tables-of-requires : tie.Need-tables-of-requires
-tables-of-requires c κs = c .before .before .read-leading-into .kept .1 .0
+tables-of-requires c κs = search needs
 
 returns : tie.Need-returns
-returns c =
-    let b = c .before .before .before in
-    let k = b .before .before in
-    let d = k .before .args .d .now in
-    let o = octets-of-slice d (λ i. omega (arith, k .shared-slice-known .given i)) in
-    valued (readLeading d) (leading-good d o) (b .read-leading-into .ensures) (c .tables-of .ensures)
+returns c = search leading-valued
 
 pub read-leading-spec : {M : Type 1} → statement M
 read-leading-spec =
