@@ -3,7 +3,7 @@
 use Prim.Native.Nat.{ℕ, _≤_}
 use mathlib.Core.Path.{_≡_, sym, ap, _∙_, subst}
 use mathlib.Core.Bool.{Bool, true, false}
-use mathlib.Core.List.{List}
+use mathlib.Core.List.{List, []}
 use native.Mathlib.Nat.{zero-add}
 use native.Mathlib.Omega.{arith}
 use mir.Syntax.{w8}
@@ -34,7 +34,7 @@ use Rattle.reading.specs.declared.HeadRead.{HeadRead}
 use Rattle.reading.specs.declared.HeadRead.the-variants as Heads
 use Rattle.reading.specs.declared.ProfilesRead.{ProfilesRead}
 use Rattle.reading.specs.declared.ProfilesRead.the-variants as Ways
-use Rattle.reading.specs.Open.{opening, HeadSeen, headSeen, headTold, headInside, HeadIn, rooms, ends, nothing, checkTold, readAs}
+use Rattle.reading.specs.Open.{opening, HeadSeen, headSeen, headTold, headInside, HeadIn, rooms, ends, passing, readAs}
 use Rattle.reading.specs.Stored.{profilesTold, filledFrom, StoresProfiles, openTold, Leaves}
 use Rattle.reading.specs.Into.{ReadInto}
 use Rattle.reading.proofs.Filing.{followed-seen}
@@ -47,31 +47,30 @@ unfolding ends
 ends-then true next end p t n e x f = simp (guarded-then, passed-then)
 ends-then false next end p t n e x f = simp guarded-then
 
-rooms-fit : (p t n e : ℕ) → rooms p t n e nothing ≡ nothing → (p ≤ 8) × (t ≤ 36) × (n ≤ 32) × (e ≤ 32)
+rooms-fit : (p t n e : ℕ) → rooms {A = List ℕ} p t n e (ok [] 0) ≡ ok [] 0 → (p ≤ 8) × (t ≤ 36) × (n ≤ 32) × (e ≤ 32)
 rooms-fit p t n e q =
     let (a, f) = guard-ok (ltb 8 p) _ _ q in
     let (b, g) = guard-ok (ltb 36 t) _ _ f in
     let (c, h) = guard-ok (ltb 32 n) _ _ g in
     (nltb→le 8 p a, nltb→le 36 t b, nltb→le 32 n c, nltb→le 32 e (guard-ok (ltb 32 e) _ _ h .0))
 
-ends-fit : (whole : Bool) (next end p t n e : ℕ) → ends whole next end p t n e nothing ≡ nothing → (p ≤ 8) × (t ≤ 36) × (n ≤ 32) × (e ≤ 32)
+ends-fit : (whole : Bool) (next end p t n e : ℕ) → ends {A = List ℕ} whole next end p t n e (ok [] 0) ≡ ok [] 0 → (p ≤ 8) × (t ≤ 36) × (n ≤ 32) × (e ≤ 32)
 unfolding ends
 ends-fit true next end p t n e q = rooms-fit p t n e (pass-ok (eqb next end) _ _ q .1)
 ends-fit false next end p t n e q = rooms-fit p t n e q
 
-module _ (whole : Bool) (last end p t n e : ℕ) (r : Check) (told : checkTold r ≡ ends whole last end p t n e nothing) where
+module _ (whole : Bool) (last end p t n e : ℕ) (r : Check) (told : (x : Answer (List ℕ)) → passing r x ≡ ends whole last end p t n e x) where
+  ended : (x : Answer (List ℕ)) {k : Check} → r ≡ k → passing k x ≡ ends whole last end p t n e x
+  ended x q = ap (λ (k : Check). passing k x) (sym q) ∙ told x
+
   pub end-fits : r ≡ Pass → (p ≤ 8) × (t ≤ 36) × (n ≤ 32) × (e ≤ 32)
-  end-fits q = ends-fit whole last end p t n e (sym told ∙ ap checkTold q)
+  end-fits q = ends-fit whole last end p t n e (sym (ended (ok [] 0) q))
 
-  module _ (s : List ℕ) where
-    ended : {k : Check} → r ≡ k → followed (checkTold k) (λ _ _. ok s last) ≡ ends whole last end p t n e (ok s last)
-    ended q = ap (λ (k : Check). followed (checkTold k) (λ _ _. ok s last)) (sym q) ∙ ap (λ y. followed y (λ _ _. ok s last)) told ∙ ends-then whole last end p t n e nothing _
+  pub end-refused : (x : Answer (List ℕ)) {y : Refusal} {left : List ℕ} → r ≡ Refuse y → Leaves (ends whole last end p t n e x) left (Refused y)
+  end-refused x q = record { told = ended x q }
 
-    pub end-refused : {x : Refusal} {left : List ℕ} → r ≡ Refuse x → Leaves (ends whole last end p t n e (ok s last)) left (Refused x)
-    end-refused q = record { told = ended q }
-
-    pub end-passed : {left : List ℕ} → r ≡ Pass → left ≡ s → Leaves (ends whole last end p t n e (ok s last)) left (Count last)
-    end-passed q f = record { told = ap (λ (y : List ℕ). ok y last) f ∙ ended q }
+  pub end-passed : (s : List ℕ) {left : List ℕ} → r ≡ Pass → left ≡ s → Leaves (ends whole last end p t n e (ok s last)) left (Count last)
+  end-passed s q f = record { told = ap (λ (y : List ℕ). ok y last) f ∙ ended (ok s last) q }
 
 -- ---- the whole reading
 

@@ -1,16 +1,17 @@
 // Reads a leading reference, or a whole slice, into a lent table and by value. Figures count from the start of the slice,
 // inside a profile from the start of its data; views always count from the start of the caller's slice.
 ghost use mathlib.Core.Path.{_≡_};
-ghost use Prim.Native.Nat.{_+_, _≤_};
+ghost use Prim.Native.Nat.{ℕ, _+_, _≤_};
+ghost use mathlib.Core.List.{List};
 ghost use lib.ListN.{length};
 ghost use Rattle.octets.specs.Octets.{splice};
-ghost use Rattle.reference.specs.Steps.{ok, seen, many};
+ghost use Rattle.reference.specs.Steps.{Answer as Read, ok, seen, many};
 ghost use Rattle.reference.specs.Reader.{readBody, readProfile, readLeading, readWhole, answered};
 ghost use Rattle.reference.specs.Heads.{readHeader};
 ghost use Rattle.table.specs.Flat.{frontNumbers, Lent};
 ghost use Rattle.table.specs.Filed.{referenceFiled};
 ghost use Rattle.components.specs.Told.{StoresBody};
-ghost use Rattle.reading.specs.Open.{headerTold, HeadIn, rooms, ends, nothing, checkTold, readAs};
+ghost use Rattle.reading.specs.Open.{headerTold, HeadIn, rooms, ends, passing, readAs};
 ghost use Rattle.reading.specs.Stored.{StoresProfiles, Leaves};
 ghost use Rattle.reading.specs.Into.{ReadInto};
 use biop::read_biop;
@@ -132,7 +133,7 @@ fn read_head(d: &[u8]) -> HeadRead
 
 // 7 for the first of profiles, taps, names, extras that does not fit.
 fn check_room(profiles: usize, taps: usize, names: usize, extras: usize) -> Check
-    ensures { λ r. ⌜ checkTold r ≡ rooms profiles taps names extras nothing ⌝ }
+    ensures { λ r. ⌜ ((x : Read (List ℕ)) → passing r x ≡ rooms profiles taps names extras x) ⌝ }
 {
     if PROFILES < profiles {
         return Check::Refuse(too_many(PLACE_PROFILES, profiles, PROFILES));
@@ -160,7 +161,7 @@ fn check_end(
     extras: usize,
 ) -> Check
     requires { ⌜ next ≤ end ⌝ }
-    ensures { λ r. ⌜ checkTold r ≡ ends whole next end profiles taps names extras nothing ⌝ }
+    ensures { λ r. ⌜ ((x : Read (List ℕ)) → passing r x ≡ ends whole next end profiles taps names extras x) ⌝ }
 {
     if whole && next != end {
         return Check::Refuse(left_over(PLACE_REFERENCE_LEFTOVER, next, end));

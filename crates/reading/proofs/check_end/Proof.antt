@@ -16,7 +16,7 @@ returns : tie.Need-returns
 unfolding ends
 returns c =
     let a = c .before .before .before .args in
-    ap refused (c .left-over .ensures) ∙ simp (c .before .before .if1 .taken, not-true (eqb (a .next) (a .end)) (c .before .if2 .taken))
+    λ x. ap refused (c .left-over .ensures) ∙ simp (c .before .before .if1 .taken, not-true (eqb (a .next) (a .end)) (c .before .if2 .taken))
 
 check-room-requires : tie.Need-check-room-requires
 check-room-requires c κs = search needs
@@ -25,7 +25,7 @@ returns-2 : tie.Need-returns-2
 unfolding ends
 returns-2 c =
     let a = c .before .before .args in
-    ⊎-elim (λ w. c .check-room .ensures ∙ simp (w .0 .taken, not-false (eqb (a .next) (a .end)) (w .1 .left))) (λ w. c .check-room .ensures ∙ simp (w .left)) (c .before .if1 .came)
+    λ x. ⊎-elim (λ w. c .check-room .ensures x ∙ simp (w .0 .taken, not-false (eqb (a .next) (a .end)) (w .1 .left))) (λ w. c .check-room .ensures x ∙ simp (w .left)) (c .before .if1 .came)
 
 pub check-end-spec : {M : Type 1} → statement M
 check-end-spec =
