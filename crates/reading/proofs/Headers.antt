@@ -1,7 +1,7 @@
 -- The header of a profile, and what stands before the profiles, one law for each case of the code. The premises
 -- are what the code knows there, so that a proof only names the law. Assumes nothing.
 use Prim.Native.Nat.{ℕ, _+_, _-_, _%_, _<_, _≤_}
-use mathlib.Core.Path.{_≡_, sym, ap}
+use mathlib.Core.Path.{_≡_, sym, _∙_}
 use mathlib.Core.Logic.{_≢_}
 use mathlib.Core.List.{List}
 use native.Mathlib.Nat.{add-assoc}
@@ -17,8 +17,7 @@ use Rattle.reference.specs.Refusals.{refusal, cutAt, longAt, wrongAt}
 use Rattle.reference.specs.Steps.{Answer, ok, refused, need, number, checked, run, fits, after, done}
 use Rattle.reference.specs.Reader.{readCount}
 use Rattle.reference.specs.Heads.{Header, readHeader, readHead}
-use Rattle.reading.specs.Open.{HeadIn}
-use Rattle.reading.specs.declared.HeadRead.the-variants as Heads
+use Rattle.reading.specs.Open.{opening, Opens}
 
 -- ---- the header of a profile
 
@@ -43,36 +42,33 @@ module _ (d : List ℕ) (pos end : ℕ) where
 
 module _ (d : List ℕ) where
   abbrev No : Refusal → Type 0
-  No x = HeadIn d (Heads.Not x)
+  No x = opening d ≡ refused x
 
   pub head-large : {x : Refusal} → x ≡ refusal 6 0 (length d) 65535 → 65535 < length d → No x
-  head-large e h = record { told = simp (e, lt-ltb); inside = tt }
+  head-large e h = simp (e, lt-ltb)
 
   module _ (small : length d ≤ 65535) where
     pub head-cut : {x : Refusal} → x ≡ cutAt place-reference-fixed 0 8 (length d) → length d < 8 → No x
     unfolding readHead need
-    head-cut e h = record { told = simp (e, le-ltb, lt-ltb); inside = tt }
+    head-cut e h = simp (e, le-ltb, lt-ltb)
 
     module _ {n : ℕ} (size : n ≡ be (part d 0 4)) (room : 8 ≤ length d) where
       pub head-odd : {x : Refusal} → x ≡ wrongAt 4 place-type-id-length → n % 4 ≢ 0 → No x
       unfolding readHead need checked
-      head-odd e h = record { told = simp (e, ← size, le-ltb, ne-eqb); inside = tt }
+      head-odd e h = simp (e, ← size, le-ltb, ne-eqb)
 
       module _ (even : n % 4 ≡ 0) where
         pub head-over : {x : Refusal} → x ≡ longAt 4 n (length d) → length d - 4 < n → No x
         unfolding readHead need checked number run
-        head-over e h = record { told = simp (e, ← size, le-ltb, lt-ltb, eq-eqb); inside = tt }
+        head-over e h = simp (e, ← size, le-ltb, lt-ltb, eq-eqb)
 
         module _ (fit : n ≤ length d - 4) where
           pub head-short : {x : Refusal} → x ≡ cutAt place-profile-count (4 + n) 4 (length d) → length d < 4 + n + 4 → No x
           unfolding readHead readCount need checked number run after
-          head-short e h = record { told = simp (e, ← size, le-ltb, lt-ltb, eq-eqb); inside = tt }
+          head-short e h = simp (e, ← size, le-ltb, lt-ltb, eq-eqb)
 
-          pub head-read : {v : View} {c : ℕ} → v ≡ record { at = 4; len = n } → c ≡ be (part d (4 + n) 4) → 4 + n + 4 ≤ length d → HeadIn d (Heads.Got v c (4 + n + 4))
+          pub head-read : {v : View} {c : ℕ} → v ≡ record { at = 4; len = n } → c ≡ be (part d (4 + n) 4) → 4 + n + 4 ≤ length d → Opens d v c (4 + n + 4)
           unfolding readHead readCount need checked number run after done
-          head-read {c = c} e f h =
+          head-read e f h =
               let l = length-part d 4 n (omega arith) in
-              record {
-                told = simp (e, ← f, ← size, le-ltb, eq-eqb) (λ j. ok (record { typeId = record { at = 4; len = sym l j }; count = c }) (4 + n + 4));
-                inside = (small, h, omega (arith, ap (λ (x : View). x .len) e));
-              }
+              record { small = small; inside = h; id = part d 4 n; read = simp (← f, ← size, le-ltb, eq-eqb); shown = e ∙ (λ j. record { at = 4; len = sym l j }); behind = omega (arith, l) }

@@ -18,9 +18,9 @@ use Rattle.reference.specs.declared.Check.the-variants.{Pass, Refuse}
 use Rattle.reference.specs.declared.Answer.{Answer as Told}
 use Rattle.reference.specs.declared.Answer.the-variants.{Count, Refused}
 use Rattle.reference.specs.Meaning.{Profile, Reference, tapsOf, namesOf, extrasOf, sum}
-use Rattle.reference.specs.Steps.{Answer, ok, followed, seen, many}
+use Rattle.reference.specs.Steps.{Answer, ok, refused, followed, seen, many}
 use Rattle.reference.specs.Reader.{readProfile}
-use Rattle.reference.specs.Placed.{view, profilesAt}
+use Rattle.reference.specs.Placed.{profilesAt}
 use Rattle.reference.proofs.Laws.{guard-ok, pass-ok, reads-many}
 use Rattle.reference.proofs.Parts.{profile-reads}
 use Rattle.reference.proofs.Steps.{guarded-then, passed-then, seen-ok, seen-no}
@@ -34,7 +34,7 @@ use Rattle.reading.specs.declared.HeadRead.{HeadRead}
 use Rattle.reading.specs.declared.HeadRead.the-variants as Heads
 use Rattle.reading.specs.declared.ProfilesRead.{ProfilesRead}
 use Rattle.reading.specs.declared.ProfilesRead.the-variants as Ways
-use Rattle.reading.specs.Open.{opening, HeadSeen, headSeen, headTold, headInside, HeadIn, rooms, ends, passing, readAs}
+use Rattle.reading.specs.Open.{opening, Opens, HeadIn, rooms, ends, passing, readAs}
 use Rattle.reading.specs.Stored.{profilesTold, filledFrom, StoresProfiles, openTold, Leaves}
 use Rattle.reading.specs.Into.{ReadInto}
 use Rattle.reading.proofs.Filing.{followed-seen}
@@ -88,27 +88,21 @@ module _ (whole : Bool) (d t : List ℕ) (r : HeadRead) (o : HeadIn d r) where
   Left e v = Leaves (seen (referenceFiled t) (readAs whole d)) e v
 
   pub no-head : {x : Refusal} {e : List ℕ} → r ≡ Heads.Not x → Left e (Refused x)
-  no-head q = record { told = rw (reading-opened whole d, seen-no headSeen (opening d) (sym (o .told) ∙ ap headTold q)) }
+  no-head {x} q = let no : opening d ≡ refused x = subst (HeadIn d) q o in record { told = rw (reading-opened whole d, no) }
 
   module _ {v : View} {count next : ℕ} (q : r ≡ Heads.Got v count next) where
-    opened : (i : List ℕ) × (opening d ≡ ok (record { typeId = i; count = count }) next) × (v ≡ view 4 i)
-    opened =
-        let (h, e, s) = seen-ok headSeen (opening d) (sym (o .told) ∙ ap headTold q) in
-        let n = ap (λ (x : HeadSeen). x .count) (sym s) in
-        (h .typeId, e ∙ (λ j. ok (record { typeId = h .typeId; count = n j }) next), ap (λ (x : HeadSeen). x .typeId) s)
-
-    bounds : headInside d (Heads.Got v count next)
-    bounds = subst (headInside d) q (o .inside)
+    opens : Opens d v count next
+    opens = subst (HeadIn d) q o
 
     pub slice-small : length d ≤ 65535
-    slice-small = bounds .0
+    slice-small = opens .small
 
     pub profiles-inside : next ≤ length d
-    profiles-inside = bounds .1
+    profiles-inside = opens .inside
 
     module _ {t′ : List ℕ} (w : ProfilesRead) (p : StoresProfiles next t (many count readProfile d next (length d)) t′ w) where
       pub no-profiles : {x : Refusal} {e : List ℕ} → w ≡ Ways.Not x → Left e (Refused x)
-      no-profiles f = record { told = rw (reading-opened whole d, opened .1, seen-no (filledFrom next t 0 noCounts) (many count readProfile d next (length d)) (sym (p .told) ∙ ap (profilesTold t′) f)) }
+      no-profiles f = record { told = rw (reading-opened whole d, opens .read, seen-no (filledFrom next t 0 noCounts) (many count readProfile d next (length d)) (sym (p .told) ∙ ap (profilesTold t′) f)) }
 
       module _ {u : Counts} {last : ℕ} (f : w ≡ Ways.Got u last) (octs : (k : ℕ) → Fits w8 (getD d k 0)) where
         -- the profiles end inside, are as many as the head says, and are filed
@@ -126,19 +120,17 @@ module _ (whole : Bool) (d t : List ℕ) (r : HeadRead) (o : HeadIn d r) where
         pub closed : {e : List ℕ} {k : Told}
             → Leaves (ends whole last (length d) count (u .taps) (u .names) (u .extras) (ok (splice t′ 0 (frontNumbers v count (u .taps) (u .names) (u .extras))) last)) e k → Left e k
         closed c =
-            let (i, head, ev) = opened in
             let (l, profiles, s, _, n) = read in
-            let m : Reference = record { typeId = i; profiles = l } in
-            let at : next ≡ profilesAt m = omega (arith, bounds .2, ap (λ (x : View). x .len) ev) in
-            let whole-read : readAs whole d ≡ asked whole d m last = rw (reading-opened whole d, head, profiles) in
+            let m : Reference = record { typeId = opens .id; profiles = l } in
+            let whole-read : readAs whole d ≡ asked whole d m last = rw (reading-opened whole d, opens .read, profiles) in
             let counts : Counts = record { taps = sum tapsOf l; names = sum namesOf l; extras = sum extrasOf l } in
             let filed : _≡_ {A = Filled} (record { table = t′; counts = u }) (record { table = profilesFiled (profilesAt m) t 0 noCounts l; counts = counts }) =
-            s ∙ (λ j. record { table = profilesFiled (at j) t 0 noCounts l; counts = record { taps = zero-add (counts .taps) j; names = zero-add (counts .names) j; extras = zero-add (counts .extras) j } }) in
+            s ∙ (λ j. record { table = profilesFiled (opens .behind j) t 0 noCounts l; counts = record { taps = zero-add (counts .taps) j; names = zero-add (counts .names) j; extras = zero-add (counts .extras) j } }) in
             record {
               told =
                   c .told
                   ∙ (λ j. ends whole last (length d) (sym n j) (filed j .counts .taps) (filed j .counts .names) (filed j .counts .extras)
-                  (ok (splice (filed j .table) 0 (frontNumbers (ev j) (sym n j) (filed j .counts .taps) (filed j .counts .names) (filed j .counts .extras))) last))
+                  (ok (splice (filed j .table) 0 (frontNumbers (opens .shown j) (sym n j) (filed j .counts .taps) (filed j .counts .names) (filed j .counts .extras))) last))
                   ∙ sym (followed-seen (referenceFiled t) (readAs whole d)
                   ∙ ap (λ (x : Answer Reference). followed x (λ a n. ok (referenceFiled t a) n)) whole-read ∙ ends-then whole last (length d) _ _ _ _ (ok m last) _);
             }

@@ -12,7 +12,7 @@ use Rattle.reference.specs.declared.Check.the-variants.{Pass, Refuse}
 use Rattle.reference.specs.Meaning.{Reference}
 use Rattle.reference.specs.Places.{place-reference-leftover, place-profiles, place-taps, place-names, place-extras}
 use Rattle.reference.specs.Refusals.{leftAt}
-use Rattle.reference.specs.Steps.{Answer, ok, refused, pick, seen}
+use Rattle.reference.specs.Steps.{Answer, ok, refused, pick}
 use Rattle.reference.specs.Reader.{small, limit, readLeading, readWhole}
 use Rattle.reference.specs.Heads.{Header, Head, readHead}
 use Rattle.reference.specs.Placed.{view}
@@ -31,25 +31,18 @@ headerTold pos (Headers.Not x) = refused x
 abbrev pub opening : List ℕ → Answer Head
 opening d = small d (readHead d 0 (length d))
 
-pub record HeadSeen : Type 0 where
-  pub typeId : View
-  pub count : ℕ
+-- it was read from d: v shows the type id, and the profiles stand behind it, inside d
+pub record Opens (d : List ℕ) (v : View) (count next : ℕ) : Type 0 where
+  pub small : length d ≤ 65535
+  pub inside : next ≤ length d
+  pub id : List ℕ
+  pub read : opening d ≡ ok (record { typeId = id; count = count }) next
+  pub shown : v ≡ view 4 id
+  pub behind : next ≡ 4 + length id + 4
 
-abbrev pub headSeen : Head → HeadSeen
-headSeen h = record { typeId = view 4 (h .typeId); count = h .count }
-
-abbrev pub headTold : HeadRead → Answer HeadSeen
-headTold (Heads.Got v c next) = ok (record { typeId = v; count = c }) next
-headTold (Heads.Not x) = refused x
-
--- the profiles stand inside, and where the type id ends
-abbrev pub headInside : List ℕ → HeadRead → Type 0
-headInside d (Heads.Got v c next) = (length d ≤ 65535) × (next ≤ length d) × (next ≡ 4 + v .len + 4)
-headInside d (Heads.Not x) = Unit {0}
-
-pub record HeadIn (d : List ℕ) (r : HeadRead) : Type 0 where
-  pub told : headTold r ≡ seen headSeen (opening d)
-  pub inside : headInside d r
+abbrev pub HeadIn : List ℕ → HeadRead → Type 0
+HeadIn d (Heads.Got v count next) = Opens d v count next
+HeadIn d (Heads.Not x) = opening d ≡ refused x
 
 -- ---- what is checked behind the profiles, before an answer: leftover octets, if the whole slice is read, and then 7 for the first table that is too
 -- small
