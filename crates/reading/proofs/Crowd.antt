@@ -5,7 +5,7 @@ use native.Mathlib.Omega.{arith}
 use lib.ListN.{length, length-append}
 use Rattle.octets.specs.Octets.{joined}
 use Rattle.octets.proofs.Inverse.{length-octets}
-use Rattle.reference.specs.Meaning.{Tap, Name, Extra, Profile, biop, lite, opaque, tapsOf, namesOf, extrasOf}
+use Rattle.reference.specs.Meaning.{Profile, biop, lite, opaque, tapsOf, namesOf, extrasOf}
 use Rattle.reference.specs.Layout.{layoutTap, layoutName, layoutNamed, layoutExtra, layoutBinder, layoutService, layoutBiop, layoutLite, dataOf, layoutProfile}
 
 -- parts that are not empty are no more than their octets
@@ -13,20 +13,14 @@ crowd : {A : Type 0} (lay : A → List ℕ) → ((a : A) → 1 ≤ length (lay a
 crowd lay some [] = omega arith
 crowd lay some (a ∷ l) = omega (arith, some a, crowd lay some l, length-append (lay a) (joined (map lay l)))
 
-taps-crowd : (l : List Tap) → length l ≤ length (joined (map layoutTap l))
-unfolding layoutTap
-taps-crowd l = crowd layoutTap (λ t. simp (length-append, length-octets) (omega arith)) l
-
-names-crowd : (l : List Name) → length l ≤ length (joined (map layoutName l))
-unfolding layoutNamed
-names-crowd l = crowd layoutName (λ n. simp (length-append, length-octets) (omega arith)) l
-
-extras-crowd : (l : List Extra) → length l ≤ length (joined (map layoutExtra l))
-unfolding layoutExtra
-extras-crowd l = crowd layoutExtra (λ e. simp (length-append, length-octets) (omega arith)) l
-
 pub entries-below : (p : Profile) → (tapsOf p ≤ length (layoutProfile p)) × (namesOf p ≤ length (layoutProfile p)) × (extrasOf p ≤ length (layoutProfile p))
-unfolding layoutProfile dataOf layoutBiop layoutBinder layoutLite layoutService
-entries-below (biop b) = simp (length-append, length-octets) (omega (arith, taps-crowd (b .taps), extras-crowd (b .extras)))
-entries-below (lite l) = simp (length-append, length-octets) (omega (arith, names-crowd (l .service .names), extras-crowd (l .extras)))
+unfolding layoutProfile dataOf layoutBiop layoutBinder layoutLite layoutService layoutTap layoutNamed layoutExtra
+entries-below (biop b) =
+    let taps = crowd layoutTap (λ t. simp (length-append, length-octets) (omega arith)) (b .taps) in
+    let extras = crowd layoutExtra (λ e. simp (length-append, length-octets) (omega arith)) (b .extras) in
+    simp (length-append, length-octets) (omega arith)
+entries-below (lite l) =
+    let names = crowd layoutName (λ n. simp (length-append, length-octets) (omega arith)) (l .service .names) in
+    let extras = crowd layoutExtra (λ e. simp (length-append, length-octets) (omega arith)) (l .extras) in
+    simp (length-append, length-octets) (omega arith)
 entries-below (opaque t s) = omega arith
