@@ -1,7 +1,7 @@
 -- A loop that reads profiles and files each into a lent table: what is left to do does what was to be done. One law for each case of the code, whose
 -- premises are what the code knows there. Assumes nothing.
 use Prim.Native.Nat.{ℕ, suc, _+_, _-_, _<_, _≤_}
-use mathlib.Core.Path.{_≡_, refl, sym, ap, ap₂, _∙_}
+use mathlib.Core.Path.{_≡_, refl, sym, ap, _∙_}
 use mathlib.Core.List.{List, [], _∷_}
 use native.Mathlib.Nat.{add-assoc, add-zero, sub-zero, add-sub-cancel-left}
 use native.Mathlib.Omega.{arith}
@@ -153,17 +153,15 @@ module _ {d : List ℕ} {n pos : ℕ} {t₀ : List ℕ} where
           pub one-more : {u′ : Counts} → ((k : ℕ) → Fits w8 (getD d k 0)) → v ≡ Bodies.Got u′ → Files d n pos t₀ t′ u′ (cur + 8 + len) (i + 1)
           one-more octs f =
               let (p, e, g) = seen-ok filledWith body (kept f) in
-              let et = ap (λ (y : Filled). y .table) g in
-              let eu = ap (λ (y : Filled). y .counts) g in
               let r = by-body ∙ ap (outward (cur + 8) len) e in
               let (_, span) = moved profile-reads d cur (length d) (octets-of-slice d (λ k. octs k .fits)) (h .inside) (omega arith) r in
               record {
                 inside = data-inside;
-                long = ap length et ∙ filed-length t i u _ _ _ _ (h .long);
-                taps = omega (arith, ap (λ (v : Counts). v .taps) eu, entries-below p, h .taps);
-                names = omega (arith, ap (λ (v : Counts). v .names) eu, entries-below p, h .names);
-                extras = omega (arith, ap (λ (v : Counts). v .extras) eu, entries-below p, h .extras);
+                long = ap (λ (y : Filled). length (y .table)) g ∙ filed-length t i u _ _ _ _ (h .long);
+                taps = omega (arith, ap (λ (y : Filled). y .counts .taps) g, entries-below p, h .taps);
+                names = omega (arith, ap (λ (y : Filled). y .counts .names) g, entries-below p, h .names);
+                extras = omega (arith, ap (λ (y : Filled). y .counts .extras) g, entries-below p, h .extras);
                 same =
                     h .same ∙ ap (λ (j : ℕ). to-come d j cur t i u) one-left ∙ one-less d (n - (i + 1)) cur t i u r span (h .long)
-                    ∙ ap₂ (λ (x : List ℕ) (v : Counts). to-come d (n - (i + 1)) (cur + 8 + len) x (i + 1) v) (sym et) (sym eu);
+                    ∙ ap (λ (y : Filled). to-come d (n - (i + 1)) (cur + 8 + len) (y .table) (i + 1) (y .counts)) (sym g);
               }
