@@ -83,10 +83,7 @@ returns-4 c =
     let n = m .before .before .before .before in
     let k = n .before .before .before .before in
     let names = n .read-names .ensures in
-    let named = m .mid .given .1 in
     let context = v .before .before .read-context .ensures in
-    let shown = v .view .given .1 in
-    let extras = e .read-extras .ensures in
     let octs = k .shared-slice-known .given in
     let pre = k .before .pre in
     λ a s. ⊎-elim (λ y. search filed-in) (λ y. search filed-out) (c .if1 .came)
