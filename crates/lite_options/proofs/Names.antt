@@ -55,13 +55,13 @@ module _ (place : ℕ) (d : List ℕ) (base pos end : ℕ) where
       run-ok = seen-ok (view (base + pos + 4)) _ (sym read ∙ ap runTold q)
 
       module _ (octs : (k : ℕ) → Fits w8 (getD d k 0)) (from : pos ≤ end) (fits : end ≤ length d) where
-        run-moved : (next ≤ end) × (next ≡ pos + (4 + length (run-ok .0)))
-        run-moved =
+        run-spans : (next ≤ end) × (next ≡ pos + (4 + length (run-ok .0)))
+        run-spans =
             let (room, span) = moved (run-reads 4 place) d pos end (octets-of-slice d (λ k. octs k .fits)) from fits (run-ok .1) in
             (room, omega (arith, simp (length-append, length-octets) at span))
 
         pub run-inside : next ≤ end
-        run-inside = run-moved .0
+        run-inside = run-spans .0
 
 module _ (d : List ℕ) (base pos end : ℕ) where
   -- ---- a name is two runs
@@ -85,7 +85,7 @@ module _ (d : List ℕ) (base pos end : ℕ) where
       name-read {kind} {next} p octs from fits =
           let (i, e, v) = run-ok place-id-length d base pos end r first q in
           let (k, f, w) = run-ok place-kind-length d base mid end s second p in
-          let at-kind : base + mid + 4 ≡ base + pos + (4 + length i + 4) = omega (arith, run-moved place-id-length d base pos end r first q octs from fits .1) in
+          let at-kind : base + mid + 4 ≡ base + pos + (4 + length i + 4) = omega (arith, run-spans place-id-length d base pos end r first q octs from fits .1) in
           rw (e, f) (λ j. ok (record { id = v j; kind = (w ∙ ap (λ (n : ℕ). view n k) at-kind) j }) next)
 
   -- ---- the context is a run that must reach the end
