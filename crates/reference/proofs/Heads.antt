@@ -1,27 +1,27 @@
 -- The readers that are cut are those that are not: head and rest together, for each part. And what they answer, one equation for each case of
 -- code that is cut where they are. Assumes nothing.
-use Prim.Native.Nat.{ℕ, _+_, _-_, _%_, _<_, _≤_}
+use Prim.Native.Nat.{ℕ, _+_, _-_, _<_, _≤_}
 use mathlib.Core.Path.{_≡_, ap, _∙_, sym, subst}
 use mathlib.Core.Bool.{not}
 use mathlib.Core.List.{List}
 use mathlib.Core.Logic.{_≢_}
-use native.Mathlib.Nat.{add-assoc, sub-zero}
+use native.Mathlib.Nat.{sub-zero}
 use native.Mathlib.Omega.{arith}
 use lib.ListN.{length}
 use lib.Seq.{take-all}
-use lib.Dec.{T, ltb, nltb→le, leb, eqb, eqb→eq, eqb-refl, leb→le, le→leb, not-T}
+use lib.Dec.{T, ltb, nltb→le, eqb, eqb→eq, eqb-refl, not-T}
 use Rattle.octets.specs.Octets.{part, be}
 use Rattle.reference.specs.declared.Refusal.{Refusal}
 use Rattle.reference.specs.Meaning.{biop, lite, opaque, Reference}
 use Rattle.reference.specs.Layout.{tag-biop, tag-lite}
-use Rattle.reference.specs.Places.{place-reference-fixed, place-reference-leftover, place-profile-count, place-profile-header, place-type-id-length}
+use Rattle.reference.specs.Places.{place-reference-leftover, place-profile-header}
 use Rattle.reference.specs.Refusals.{cutAt, leftAt, longAt, wrongAt}
 use Rattle.reference.specs.Steps.{Answer, ok, refused, Reader, pick, followed, seen, outward, done, need, number, checked, run, rest, choose, ending, within, fits, apart, many, after}
-use Rattle.reference.specs.Reader.{readCount, readRun, readNamed, component, readFixed, readBinder, readBiop, readLite, readBody, readProfile, readReference, roomy, small, readLeading, readWhole}
+use Rattle.reference.specs.Reader.{readCount, readRun, readNamed, component, readBinder, readBiop, readLite, readBody, readProfile, readReference, roomy, small, readLeading, readWhole}
 use Rattle.reference.specs.Heads.{edge, before, readPart, Opened, opened, readBinderHead, readBiopHead, readBiopRest, readServicePart, readLiteHead, readLiteRest, Header, readHeader, Head, readHead}
 use Rattle.reference.proofs.Laws.{guard-ok, guard-pass, pass-ok, pass-pass, followed-ok}
 use Rattle.reference.proofs.Parts.{service-headed}
-use Rattle.reference.proofs.Steps.{need-cut, need-pass, run-cut, run-pass, checked-pass, checked-not, within-cut, within-pass, fits-cut, fits-pass, after-no, after-ok, after-done, guarded-then, passed-then, followed-followed}
+use Rattle.reference.proofs.Steps.{need-cut, need-pass, run-cut, run-pass, after-no, after-ok, after-done, guarded-then, passed-then, followed-followed}
 
 unequal : {m n : ℕ} → m ≢ n → T (not (eqb m n))
 unequal {m} {n} h = not-T (eqb m n) (λ t. h (eqb→eq m n t))
@@ -96,29 +96,6 @@ module _ (w idPlace kindPlace : ℕ) (d : List ℕ) (pos end : ℕ) where
 -- ---- a component: its header, and its data
 
 module _ (w tag header wrong : ℕ) (d : List ℕ) (pos end : ℕ) where
-  pub part-cut : end < pos + (4 + w) → readPart w tag header wrong d pos end ≡ refused (cutAt header pos (4 + w) end)
-  unfolding readPart
-  part-cut h = need-cut d pos end (4 + w) header _ h
-
-  module _ (room : pos + (4 + w) ≤ end) where
-    pub part-wrong : be (part d pos 4) ≢ tag → readPart w tag header wrong d pos end ≡ refused (wrongAt 3 wrong)
-    unfolding readPart
-    part-wrong h = need-pass d pos end (4 + w) header _ room ∙ checked-not d pos end 4 (λ t. eqb t tag) 3 wrong _ (unequal h)
-
-    module _ (right : be (part d pos 4) ≡ tag) where
-      part-spans : readPart w tag header wrong d pos end ≡ within (be (part d (pos + 4) w)) edge d (pos + (4 + w)) end
-      unfolding readPart number
-      part-spans =
-          need-pass d pos end (4 + w) header _ room ∙ checked-pass d pos end 4 (λ t. eqb t tag) 3 wrong _ (equal right)
-          ∙ ap (λ (x : ℕ). within (be (part d (pos + 4) w)) edge d x end) (add-assoc pos 4 w)
-
-      pub part-over : end - (pos + (4 + w)) < be (part d (pos + 4) w) → readPart w tag header wrong d pos end ≡ refused (longAt (pos + (4 + w)) (be (part d (pos + 4) w)) end)
-      part-over h = part-spans ∙ within-cut d (pos + (4 + w)) end (be (part d (pos + 4) w)) edge h
-
-      pub part-read : be (part d (pos + 4) w) ≤ end - (pos + (4 + w)) → readPart w tag header wrong d pos end ≡ ok (pos + (4 + w) + be (part d (pos + 4) w)) (pos + (4 + w))
-      unfolding edge
-      part-read h = part-spans ∙ within-pass d (pos + (4 + w)) end (be (part d (pos + 4) w)) edge h
-
   -- where the data stands
   pub part-known : {stop start : ℕ} → readPart w tag header wrong d pos end ≡ ok stop start → (start ≡ pos + (4 + w)) × (start ≤ stop) × (stop ≤ end)
   unfolding readPart need number checked within edge
@@ -166,54 +143,9 @@ opened-known {A} w tag header wrong r d pos end {o} {next} e =
     (ap (λ (k : ℕ). r d k stop) (sym s) ∙ p′ ∙ ap (ok a) w′, omega arith, u) in
     subst (λ (x : Opened A). (r d (pos + (4 + w)) (x .stop) ≡ ok (x .head) next) × (pos + (4 + w) ≤ x .stop) × (x .stop ≤ end)) v it
 
--- ---- the two octets that begin a body
-
-module _ (least place order range : ℕ) (d : List ℕ) (pos end : ℕ) where
-  pub fixed-cut : end < pos + 2 → readFixed least place order range d pos end ≡ refused (cutAt place pos 2 end)
-  unfolding readFixed
-  fixed-cut h = need-cut d pos end 2 place _ h
-
-  module _ (room : pos + 2 ≤ end) where
-    pub fixed-order : be (part d pos 1) ≢ 0 → readFixed least place order range d pos end ≡ refused (wrongAt 3 order)
-    unfolding readFixed
-    fixed-order h = need-pass d pos end 2 place _ room ∙ checked-not d pos end 1 (λ o. eqb o 0) 3 order _ (unequal h)
-
-    module _ (right : be (part d pos 1) ≡ 0) where
-      fixed-count : readFixed least place order range d pos end ≡ checked 1 (leb least) 4 range done d (pos + 1) end
-      unfolding readFixed number
-      fixed-count = need-pass d pos end 2 place _ room ∙ checked-pass d pos end 1 (λ o. eqb o 0) 3 order _ (equal right)
-
-      pub fixed-few : be (part d (pos + 1) 1) < least → readFixed least place order range d pos end ≡ refused (wrongAt 4 range)
-      fixed-few h =
-          fixed-count ∙ checked-not d (pos + 1) end 1 (leb least) 4 range done (not-T (leb least (be (part d (pos + 1) 1))) (λ t. omega (arith, leb→le least (be (part d (pos + 1) 1)) t)))
-
-      pub fixed-read : least ≤ be (part d (pos + 1) 1) → readFixed least place order range d pos end ≡ ok (be (part d (pos + 1) 1)) (pos + 2)
-      unfolding number done
-      fixed-read h =
-          fixed-count ∙ checked-pass d (pos + 1) end 1 (leb least) 4 range done (le→leb least (be (part d (pos + 1) 1)) h)
-          ∙ ap (λ (x : ℕ). ok (be (part d (pos + 1) 1)) x) (add-assoc pos 1 1)
-
 -- ---- a profile: its header, and its data
 
 module _ (d : List ℕ) (pos end : ℕ) where
-  pub header-cut : end < pos + 8 → readHeader d pos end ≡ refused (cutAt place-profile-header pos 8 end)
-  unfolding readHeader
-  header-cut h = need-cut d pos end 8 place-profile-header _ h
-
-  module _ (room : pos + 8 ≤ end) where
-    header-fits : readHeader d pos end ≡ fits (be (part d (pos + 4) 4)) (done (record { tag = be (part d pos 4); size = be (part d (pos + 4) 4) })) d (pos + 8) end
-    unfolding readHeader number
-    header-fits =
-        need-pass d pos end 8 place-profile-header _ room
-        ∙ ap (λ (p : ℕ). fits (be (part d (pos + 4) 4)) (done (record { tag = be (part d pos 4); size = be (part d (pos + 4) 4) })) d p end) (add-assoc pos 4 4)
-
-    pub header-over : end - (pos + 8) < be (part d (pos + 4) 4) → readHeader d pos end ≡ refused (longAt (pos + 8) (be (part d (pos + 4) 4)) end)
-    header-over o = header-fits ∙ fits-cut d (pos + 8) end (be (part d (pos + 4) 4)) _ o
-
-    pub header-read : be (part d (pos + 4) 4) ≤ end - (pos + 8) → readHeader d pos end ≡ ok (record { tag = be (part d pos 4); size = be (part d (pos + 4) 4) }) (pos + 8)
-    unfolding done
-    header-read o = header-fits ∙ fits-pass d (pos + 8) end (be (part d (pos + 4) 4)) _ o
-
   -- where the data stands
   pub header-known : {h : Header} {next : ℕ} → readHeader d pos end ≡ ok h next → (next ≡ pos + 8) × (next + h .size ≤ end)
   unfolding readHeader need number fits done
@@ -251,35 +183,6 @@ module _ (t : ℕ) (s : List ℕ) (n : ℕ) where
         ∙ ap (λ (x : List ℕ). ok (opaque t x) n) (ap (λ (k : ℕ). part s 0 k) (sub-zero n) ∙ take-all n s (omega arith))
 
 -- ---- a reference: what stands before its profiles, and these
-
-module _ (d : List ℕ) (end : ℕ) where
-  pub head-cut : end < 8 → readHead d 0 end ≡ refused (cutAt place-reference-fixed 0 8 end)
-  unfolding readHead
-  head-cut h = need-cut d 0 end 8 place-reference-fixed _ h
-
-  module _ (room : 8 ≤ end) where
-    abbrev long : ℕ
-    long = be (part d 0 4)
-
-    pub head-odd : long % 4 ≢ 0 → readHead d 0 end ≡ refused (wrongAt 4 place-type-id-length)
-    unfolding readHead
-    head-odd h = need-pass d 0 end 8 place-reference-fixed _ room ∙ checked-not d 0 end 4 (λ n. eqb (n % 4) 0) 4 place-type-id-length _ (unequal h)
-
-    module _ (even : long % 4 ≡ 0) where
-      head-typed : readHead d 0 end ≡ run long (λ i. after (readCount 4 place-profile-count) λ c. done (record { typeId = i; count = c })) d 4 end
-      unfolding readHead number
-      head-typed = need-pass d 0 end 8 place-reference-fixed _ room ∙ checked-pass d 0 end 4 (λ n. eqb (n % 4) 0) 4 place-type-id-length _ (equal even)
-
-      pub head-over : end - 4 < long → readHead d 0 end ≡ refused (longAt 4 long end)
-      head-over h = head-typed ∙ run-cut d 4 end long _ h
-
-      module _ (fits : long ≤ end - 4) where
-        pub head-short : end < 4 + long + 4 → readHead d 0 end ≡ refused (cutAt place-profile-count (4 + long) 4 end)
-        head-short h = head-typed ∙ run-pass d 4 end long _ fits ∙ after-no d (4 + long) end (readCount 4 place-profile-count) _ (count-cut 4 place-profile-count d (4 + long) end h)
-
-        pub head-read : 4 + long + 4 ≤ end → readHead d 0 end ≡ ok (record { typeId = part d 4 long; count = be (part d (4 + long) 4) }) (4 + long + 4)
-        unfolding done
-        head-read h = head-typed ∙ run-pass d 4 end long _ fits ∙ after-ok d (4 + long) end (readCount 4 place-profile-count) _ (count-read 4 place-profile-count d (4 + long) end h)
 
 -- the profiles behind a head, and what is asked of the whole
 abbrev pub profilesBehind : (Reference → ℕ → Answer Reference) → List ℕ → Head → ℕ → Answer Reference

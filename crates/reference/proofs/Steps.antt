@@ -1,15 +1,15 @@
 -- What a step of a reader answers, one equation for each case of the code. Assumes nothing.
 use Prim.Native.Nat.{ℕ, _+_, _-_, _<_, _≤_}
 use mathlib.Core.Path.{_≡_, refl, sym, ap, _∙_}
-use mathlib.Core.Bool.{Bool, true, false, not}
+use mathlib.Core.Bool.{Bool, true, false}
 use mathlib.Core.List.{List}
 use mathlib.Core.Logic.{_≢_}
 use native.Mathlib.Omega.{arith}
 use lib.Dec.{T, ltb, lt→ltb, not-T, eqb, eqb→eq, eqb-refl}
-use Rattle.octets.specs.Octets.{part, be}
+use Rattle.octets.specs.Octets.{part}
 use Rattle.reference.specs.declared.Refusal.{Refusal}
-use Rattle.reference.specs.Steps.{Answer, ok, refused, Reader, pick, followed, seen, done, need, number, run, checked, within, fits, ending, after}
-use Rattle.reference.specs.Refusals.{cutAt, leftAt, longAt, wrongAt}
+use Rattle.reference.specs.Steps.{Answer, ok, refused, Reader, pick, followed, seen, done, need, run, ending, after}
+use Rattle.reference.specs.Refusals.{cutAt, leftAt, longAt}
 use Rattle.reference.proofs.Laws.{guard-pass, pass-pass, not-ltb}
 
 module _ {A : Type 0} (d : List ℕ) (pos end : ℕ) where
@@ -30,30 +30,6 @@ module _ {A : Type 0} (d : List ℕ) (pos end : ℕ) where
   run-pass n f h = guard-pass (ltb (end - pos) n) (refused (longAt pos n end)) (f (part d pos n) d (pos + n) end) (not-ltb (end - pos) n h)
 
 module _ {A : Type 0} (d : List ℕ) (pos end : ℕ) where
-  pub checked-pass : (w : ℕ) (test : ℕ → Bool) (n place : ℕ) (f : ℕ → Reader A) → T (test (be (part d pos w))) → checked w test n place f d pos end ≡ number w f d pos end
-  unfolding checked
-  checked-pass w test n place f t = pass-pass (test (be (part d pos w))) (number w f d pos end) (refused (wrongAt n place)) t
-
-  pub checked-not : (w : ℕ) (test : ℕ → Bool) (n place : ℕ) (f : ℕ → Reader A) → T (not (test (be (part d pos w)))) → checked w test n place f d pos end ≡ refused (wrongAt n place)
-  unfolding checked
-  checked-not w test n place f t = guard-pass (test (be (part d pos w))) (number w f d pos end) (refused (wrongAt n place)) t
-
-  pub within-cut : (n : ℕ) (r : Reader A) → end - pos < n → within n r d pos end ≡ refused (longAt pos n end)
-  unfolding within
-  within-cut n r h = pass-pass (ltb (end - pos) n) (refused (longAt pos n end)) (r d pos (pos + n)) (lt→ltb (end - pos) n h)
-
-  pub within-pass : (n : ℕ) (r : Reader A) → n ≤ end - pos → within n r d pos end ≡ r d pos (pos + n)
-  unfolding within
-  within-pass n r h = guard-pass (ltb (end - pos) n) (refused (longAt pos n end)) (r d pos (pos + n)) (not-ltb (end - pos) n h)
-
-  pub fits-cut : (n : ℕ) (r : Reader A) → end - pos < n → fits n r d pos end ≡ refused (longAt pos n end)
-  unfolding fits
-  fits-cut n r h = pass-pass (ltb (end - pos) n) (refused (longAt pos n end)) (r d pos end) (lt→ltb (end - pos) n h)
-
-  pub fits-pass : (n : ℕ) (r : Reader A) → n ≤ end - pos → fits n r d pos end ≡ r d pos end
-  unfolding fits
-  fits-pass n r h = guard-pass (ltb (end - pos) n) (refused (longAt pos n end)) (r d pos end) (not-ltb (end - pos) n h)
-
   pub ending-no : (place : ℕ) (r : Reader A) {x : Refusal} → r d pos end ≡ refused x → ending place r d pos end ≡ refused x
   unfolding ending
   ending-no place r e = rw (e, ending)
@@ -104,10 +80,6 @@ guarded-then false x y f = refl
 pub passed-then : {A B : Type 0} (b : Bool) (x : Refusal) (y : Answer B) (f : B → ℕ → Answer A) → followed (pick b y (refused x)) f ≡ pick b (followed y f) (refused x)
 passed-then true x y f = refl
 passed-then false x y f = refl
-
-pub then-same : {A B : Type 0} (x : Answer B) {f g : B → ℕ → Answer A} → ((b : B) (n : ℕ) → f b n ≡ g b n) → followed x f ≡ followed x g
-then-same (ok b n) h = h b n
-then-same (refused y) h = refl
 
 module _ {A B : Type 0} (d : List ℕ) (pos end : ℕ) where
   -- what is made of an answer, and nothing more is read
