@@ -21,11 +21,11 @@ use Rattle.reference.proofs.Numbers.{writing-number}
 use Rattle.table.specs.Flat.{tablesFrom, Lent}
 use Rattle.table.specs.Filed.{SameEntries}
 use Rattle.table.proofs.Alike.{same-used}
-use Rattle.exact.specs.Exact.{exact}
-use Rattle.exact.specs.Uncut.{Uncut}
-use Rattle.exact.proofs.Uncut.{exact-exactly}
-use Rattle.exact.proofs.Alike.{same-exact}
-use Rattle.exact.proofs.Read.{read-exact}
+use Rattle.survey.specs.Exact.{exact}
+use Rattle.survey.specs.Uncut.{Uncut}
+use Rattle.survey.proofs.Uncut.{exact-exactly}
+use Rattle.survey.proofs.Alike.{same-exact}
+use Rattle.survey.proofs.Read.{read-exact}
 use Rattle.reading.proofs.Lent.{Taken}
 use Rattle.writing.specs.Writes.{Writes}
 use Rattle.ior.specs.Lent.{notExact, measuredFrom, WritesFrom}

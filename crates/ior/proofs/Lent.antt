@@ -26,7 +26,7 @@ use Rattle.table.specs.Region.{Words}
 use Rattle.table.specs.Flat.{tablesFrom, tableSize, Lent}
 use Rattle.table.specs.Filed.{referenceFiled, SameEntries}
 use Rattle.table.proofs.Typed.{told-typed}
-use Rattle.exact.specs.Uncut.{Uncut}
+use Rattle.survey.specs.Uncut.{Uncut}
 use Rattle.reading.specs.Into.{ReadInto}
 use Rattle.reading.specs.Lent.{ShowsInto}
 use Rattle.reading.proofs.Valued.{leading-good, whole-good}

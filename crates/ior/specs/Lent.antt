@@ -10,7 +10,7 @@ use Rattle.reference.specs.Steps.{pick}
 use Rattle.reference.specs.Writer.{measured, written}
 use Rattle.reference.specs.Writer as Writer
 use Rattle.table.specs.Flat.{tablesFrom}
-use Rattle.exact.specs.Exact.{exact}
+use Rattle.survey.specs.Exact.{exact}
 
 -- a table that is not exact
 abbrev pub notExact : Told

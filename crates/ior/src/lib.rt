@@ -12,7 +12,7 @@ ghost use Rattle.writing.specs.Writes.{Writes};
 ghost use Rattle.names.specs.Told.{shortTold};
 ghost use Rattle.names.specs.Writes as Short;
 ghost use Rattle.ior.specs.Lent.{measuredFrom, WritesFrom};
-use exact::is_exact;
+use faults::length_by;
 use names::ShortNameRead;
 use reference::Answer;
 use reference::FirstBiop;
@@ -22,7 +22,10 @@ use reference::Reading;
 use reference::Tables;
 use reference::TapNumbers;
 use reference::wrong;
+use survey::BOUND;
+use survey::survey_of;
 use table::SIZE;
+use writing::write_by;
 
 // A table of 490 numbers; crate table says which number is what.
 pub const TABLE: usize = SIZE;
@@ -88,8 +91,9 @@ pub fn write(t: Tables, src: &[u8], out: &mut [u8]) -> Answer
 pub fn length_from(table: &FlatTable, src: &[u8]) -> Answer
     ensures { λ r. ⌜ r ≡ measuredFrom (now (table .entry)) (now (src .entry)) ⌝ }
 {
-    if is_exact(table) {
-        return measuring::length_from(table, src);
+    let s = survey_of(table, src.len());
+    if s.fields < BOUND {
+        return length_by(s, table, src.len());
     }
     Answer::Refused(wrong(NOT_EXACT, 0))
 }
@@ -97,8 +101,9 @@ pub fn length_from(table: &FlatTable, src: &[u8]) -> Answer
 pub fn write_from(table: &FlatTable, src: &[u8], out: &mut [u8]) -> Answer
     ensures { λ r. ⌜ WritesFrom (now (table .entry)) (now (src .entry)) (now (out .entry)) r (now (out .exit)) ⌝ }
 {
-    if is_exact(table) {
-        return writing::write_from(table, src, out);
+    let s = survey_of(table, src.len());
+    if s.fields < BOUND {
+        return write_by(s, table, src, out);
     }
     Answer::Refused(wrong(NOT_EXACT, 0))
 }

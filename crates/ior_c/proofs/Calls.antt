@@ -6,25 +6,19 @@ use mathlib.Core.Logic.{_≢_, _↔_}
 use mathlib.Core.List.{List}
 use native.Mathlib.Omega.{arith}
 use Rattle.reference.specs.declared.Answer.{Answer as Told}
-use Rattle.reference.specs.declared.Answer.the-variants.{Count, Refused}
+use Rattle.reference.specs.declared.Answer.the-variants.{Refused}
 use Rattle.reference.specs.declared.Refusal.{Refusal}
-use Rattle.reference.specs.declared.Check.{Check}
-use Rattle.reference.specs.declared.Check.the-variants.{Pass}
-use Rattle.reference.specs.declared.Tables.{Tables}
 use Rattle.reference.specs.Steps.{pick}
-use Rattle.reference.specs.Tabled.{usedOf}
-use Rattle.reference.specs.Writer.{sizeOf, measureCheck, measured}
-use Rattle.reference.specs.Writer as Writer
 use lib.Dec.{eqb}
 use lib.ListN.{length}
 use borrow.Author.Tests.{eq-eqb, ne-eqb, eqb-true, le-leb, lt-leb}
 use Rattle.reference.proofs.Asked.{picks-first, picks-second}
 use Rattle.reference.proofs.Cases.{by-test, by-answer}
 use Rattle.table.specs.Flat.{tableSize, Lent}
-use Rattle.exact.specs.Exact.{exact}
-use Rattle.exact.specs.Uncut.{Uncut}
-use Rattle.exact.proofs.Every.{and-left, and-right}
-use Rattle.exact.proofs.Uncut.{exact-exactly}
+use Rattle.survey.specs.Exact.{exact}
+use Rattle.survey.specs.Uncut.{Uncut}
+use Rattle.survey.proofs.Every.{and-left, and-right}
+use Rattle.survey.proofs.Uncut.{exact-exactly}
 use Rattle.ior_c.specs.Said.{numberOf, numbersOf, Tells, Gives, sized, askable, tapAsked}
 
 module _ {asked : Bool} {n : ℕ} {l a : List ℕ} where
@@ -60,11 +54,6 @@ module _ {asked : Bool} {x : Told} {y a d : List ℕ} {r : ℕ} {b e : List ℕ}
 
   pub unasked-given : asked ≡ false → (r ≡ 255) × (b ≡ a) × (e ≡ d)
   unasked-given h = let (p, q) = unasked-told (g .tells) h in (p, q, g .leaves ∙ picks-second asked y d h)
-
--- the length, where measuring passes
-pub measured-passed : (t : Tables) (s : List ℕ) → measureCheck t (length s) ≡ Pass → measured t s ≡ Count (sizeOf (usedOf t))
-unfolding measured
-measured-passed t s e = ap (λ (c : Check). Writer.told c (sizeOf (usedOf t))) e
 
 -- ---- whatever code meets these contracts gives the same result and leaves the same in its arrays
 

@@ -31,7 +31,7 @@ use Rattle.table.specs.Region.{Words}
 use Rattle.table.specs.Flat.{tablesFrom, tableSize, Lent}
 use Rattle.table.specs.Filed.{SameEntries}
 use Rattle.table.proofs.Typed.{told-typed}
-use Rattle.exact.specs.Uncut.{Uncut}
+use Rattle.survey.specs.Uncut.{Uncut}
 use Rattle.reading.specs.Lent.{ShowsInto}
 use Rattle.reading.proofs.Valued.{leading-good, whole-good}
 use Rattle.reading.proofs.Lent.{Taken, leading-taken, lent-read-back}

@@ -17,10 +17,10 @@ use Rattle.reference.proofs.Measured.{length-is-written, only-used-matter}
 use Rattle.table.specs.Flat.{tablesFrom, tableSize, Lent}
 use Rattle.table.specs.Filed.{SameEntries}
 use Rattle.table.proofs.Alike.{same-used}
-use Rattle.exact.specs.Exact.{exact}
-use Rattle.exact.proofs.Every.{and-both}
-use Rattle.exact.proofs.Read.{read-exact}
-use Rattle.exact.proofs.Alike.{same-exact}
+use Rattle.survey.specs.Exact.{exact}
+use Rattle.survey.proofs.Every.{and-both}
+use Rattle.survey.proofs.Read.{read-exact}
+use Rattle.survey.proofs.Alike.{same-exact}
 use Rattle.reading.proofs.Lent.{Taken}
 use Rattle.ior_c.specs.Said.{numberOf, numbersOf, sized, askable}
 use Rattle.ior_c.specs.Calls.{IorLength, IorWrite}

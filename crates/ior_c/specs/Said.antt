@@ -18,7 +18,7 @@ use Rattle.reference.specs.declared.TapNumbers.the-variants.{Both, Neither}
 use Rattle.reference.specs.declared.FirstBiop.{FirstBiop}
 use Rattle.reference.specs.declared.FirstBiop.the-variants as Firsts
 use Rattle.table.specs.Flat.{nameNumbers, tableSize}
-use Rattle.exact.specs.Exact.{exact}
+use Rattle.survey.specs.Exact.{exact}
 
 -- ---- an answer: the refusal's number, its place and figures, and the count; what is not named is 0
 

@@ -9,8 +9,7 @@ ghost use Rattle.table.specs.Flat.{tablesFrom, nameFrom, nameNumbers, Lent};
 ghost use Rattle.ior_c.specs.Calls.{IorRead, IorReadWhole, IorLength, IorWrite, IorKind, IorTap, IorFirstBiop, IorDvbAddress, IorNameRead, IorNameWrite};
 ghost use Rattle.ior_c.specs.Said.{numberOf, numbersOf, sized, askable, kindNumber, typeNumber, tapResult, tapPair, firstSaid};
 use entries::sort_at;
-use exact::is_exact;
-use measuring::length_from;
+use faults::length_by;
 use names::ShortNameRead;
 use names::read_short_name;
 use names::write_short_name;
@@ -19,8 +18,6 @@ use octets::copy;
 use questions::is_dvb;
 use questions::object_kind;
 use questions::tap_numbers;
-use quick::Quick;
-use quick::quick_length;
 use reading::read_leading_into;
 use reading::read_whole_into;
 use reference::Answer;
@@ -31,13 +28,15 @@ use reference::PROFILES;
 use reference::TapNumbers;
 use reference::View;
 use reference::wrong;
+use survey::BOUND;
+use survey::is_exact;
+use survey::survey_of;
 use table::BIOP;
 use table::PROFILES_USED;
 use table::SIZE;
 use table::number_at;
 use table::put_all;
-use writing::write_from;
-use writing::write_measured;
+use writing::write_by;
 
 // What each function answers when an array has another length than it must have, or a table is not exact.
 pub const NOT_ASKED: u32 = 255;
@@ -119,17 +118,7 @@ pub extern "C" fn ior_read_whole(s: &[u8], table: &mut [u32], answer: &mut [u64]
     put_answer(read_whole_into(s, table), answer)
 }
 
-// The length of the image of the table over the source s, or what is wrong.
-fn tell_length(table: &[u32], s: &[u8], answer: &mut [u64]) -> u32
-    ensures { λ r. ⌜ IorLength (now (table .entry)) (now (s .entry)) (now (answer .entry)) r (now (answer .exit)) ⌝ }
-{
-    if !can_ask(table, answer.len()) {
-        return NOT_ASKED;
-    }
-    put_answer(length_from(table, s), answer)
-}
-
-// The length of the image of the table over the source s; or 6, 8, 9 or 10. Where nothing is wrong, one pass over the table finds it.
+// The length of the image of the table over the source s; or 6, 8, 9 or 10. One pass over the table finds whether it is exact, and the length.
 #[no_mangle]
 pub extern "C" fn ior_length(table: &[u32], s: &[u8], answer: &mut [u64]) -> u32
     ensures { λ r. ⌜ IorLength (now (table .entry)) (now (s .entry)) (now (answer .entry)) r (now (answer .exit)) ⌝ }
@@ -137,20 +126,11 @@ pub extern "C" fn ior_length(table: &[u32], s: &[u8], answer: &mut [u64]) -> u32
     if !is_sized(SIZE, table.len(), answer.len()) {
         return NOT_ASKED;
     }
-    match quick_length(table, s.len()) {
-        Quick::Length(total) => put_answer(Answer::Count(total), answer),
-        Quick::Unknown => tell_length(table, s, answer),
-    }
-}
-
-// Writes the image of the table, measuring it first, or says what is wrong.
-fn measure_and_write(table: &[u32], s: &[u8], out: &mut [u8], answer: &mut [u64]) -> u32
-    ensures { λ r. ⌜ IorWrite (now (table .entry)) (now (s .entry)) (now (out .entry)) (now (answer .entry)) r (now (answer .exit)) (now (out .exit)) ⌝ }
-{
-    if !can_ask(table, answer.len()) {
+    let found = survey_of(table, s.len());
+    if BOUND <= found.fields {
         return NOT_ASKED;
     }
-    put_answer(write_from(table, s, out), answer)
+    put_answer(length_by(found, table, s.len()), answer)
 }
 
 // Writes the image of the table over the source s at the start of `out`: its length, or the refusal, which leaves `out` as it is.
@@ -161,10 +141,11 @@ pub extern "C" fn ior_write(table: &[u32], s: &[u8], out: &mut [u8], answer: &mu
     if !is_sized(SIZE, table.len(), answer.len()) {
         return NOT_ASKED;
     }
-    match quick_length(table, s.len()) {
-        Quick::Length(total) => put_answer(write_measured(table, s, out, total), answer),
-        Quick::Unknown => measure_and_write(table, s, out, answer),
+    let found = survey_of(table, s.len());
+    if BOUND <= found.fields {
+        return NOT_ASKED;
     }
+    put_answer(write_by(found, table, s, out), answer)
 }
 
 // ---- questions

@@ -17,7 +17,7 @@ use Rattle.reference.proofs.Sizes.{length-map}
 use Rattle.table.specs.declared.Counts.{Counts}
 use Rattle.table.specs.Flat.{tablesFrom, bodyOfTable}
 use Rattle.table.proofs.Entries.{profiles-length, profile-entry, profiles-used}
-use Rattle.measuring.specs.ByTable.{usedIn}
+use Rattle.survey.specs.ByTable.{usedIn}
 use Rattle.writing.specs.Own.{countsIn, ownOn, afterOf, Placed}
 
 -- the profiles that are left at profile i, whose entries begin at f

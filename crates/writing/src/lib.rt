@@ -1,7 +1,7 @@
 // Writing a reference: all checks first, in the order of document 01 (6, 8, 9, 10, 5, 4, 2), then the stores; no octet is stored before every
 // check has passed.
 ghost use mathlib.Core.Path.{_≡_};
-ghost use Prim.Native.Nat.{_+_, _≤_, _<_};
+ghost use Prim.Native.Nat.{_+_, _≤_, _<_, min};
 ghost use lib.ListN.{length};
 ghost use Rattle.octets.specs.Put.{Put};
 ghost use Rattle.reference.specs.declared.Check.the-variants.{Pass};
@@ -13,6 +13,7 @@ ghost use Rattle.reference.specs.Checks.{both, each};
 ghost use Rattle.reference.specs.Meaning.{sum};
 ghost use Rattle.reference.specs.Writer.{ownSize, sizeOf, imageOf, countsCheck, roomCheck, typeCheck, ownShort, measureCheck, writeCheck, measured};
 ghost use Rattle.table.specs.Flat.{bodyOfTable, tablesFrom, profileRegion, Lent};
+ghost use Rattle.survey.specs.Seen.{Surveyed};
 ghost use Rattle.profiles.specs.Own.{OwnSound, PutAll, PutOwn};
 ghost use Rattle.writing.specs.Own.{countsIn, ownOn, afterOf, Placed};
 ghost use Rattle.writing.specs.Writes.{Writes};
@@ -26,10 +27,10 @@ use entries::sort_at;
 use entries::tag_at;
 use entries::taps_at;
 use entries::view_at;
+use faults::check_sizes;
+use faults::length_by;
+use faults::length_from;
 use image::write_run;
-use measuring::check_sizes;
-use measuring::length_from;
-use measuring::length_over;
 use octets::put32;
 use profiles::write_biop;
 use profiles::write_lite;
@@ -39,6 +40,8 @@ use reference::Check;
 use reference::Tables;
 use reference::no_room;
 use reference::wrong;
+use survey::Survey;
+use survey::survey_of;
 use table::BIOP;
 use table::Counts;
 use table::LITE_OPTIONS;
@@ -175,7 +178,7 @@ fn check_output(t: &[u32], total: usize, room: usize) -> Check
 }
 
 // The same as `write_from`, of a table that measuring has passed, with the image's length.
-pub fn write_measured(t: &[u32], src: &[u8], out: &mut [u8], total: usize) -> Answer
+fn write_measured(t: &[u32], src: &[u8], out: &mut [u8], total: usize) -> Answer
     requires { ⌜ Lent (now t) × (measureCheck (tablesFrom (now t)) (length (now src)) ≡ Pass) × (total ≡ sizeOf (usedOf (tablesFrom (now t)))) ⌝ }
     ensures { λ r. ⌜ Writes (tablesFrom (now (t .entry))) (now (src .entry)) (now (out .entry)) r (now (out .exit)) ⌝ }
 {
@@ -186,16 +189,23 @@ pub fn write_measured(t: &[u32], src: &[u8], out: &mut [u8], total: usize) -> An
     Answer::Count(write_image(t, src, out))
 }
 
-// Writes the image at the start of `out` and answers its length; or refuses, and leaves `out` as it is.
-pub fn write_from(t: &[u32], src: &[u8], out: &mut [u8]) -> Answer
-    requires { ⌜ Lent (now t) ⌝ }
+// Writes the image at the start of `out` and answers its length; or refuses, and leaves `out` as it is. By a survey of the table over the source.
+pub fn write_by(s: Survey, t: &[u32], src: &[u8], out: &mut [u8]) -> Answer
+    requires { ⌜ Lent (now t) × Surveyed (min (length (now src)) 65535) (now t) s ⌝ }
     ensures { λ r. ⌜ Writes (tablesFrom (now (t .entry))) (now (src .entry)) (now (out .entry)) r (now (out .exit)) ⌝ }
 {
-    let length = length_over(t, src.len());
+    let length = length_by(s, t, src.len());
     match length {
         Answer::Refused(r) => Answer::Refused(r),
         Answer::Count(total) => write_measured(t, src, out, total),
     }
+}
+
+pub fn write_from(t: &[u32], src: &[u8], out: &mut [u8]) -> Answer
+    requires { ⌜ Lent (now t) ⌝ }
+    ensures { λ r. ⌜ Writes (tablesFrom (now (t .entry))) (now (src .entry)) (now (out .entry)) r (now (out .exit)) ⌝ }
+{
+    write_by(survey_of(t, src.len()), t, src, out)
 }
 
 // The length of the image of tables by value; or 6, 8, 9 or 10.

@@ -12,7 +12,7 @@ use Rattle.reference.proofs.Formed.{Passing, passing}
 use Rattle.table.specs.declared.Counts.{Counts}
 use Rattle.table.specs.Flat.{tablesFrom, bodyOfTable}
 use Rattle.table.proofs.Entries.{profiles-used}
-use Rattle.measuring.specs.ByTable.{usedIn}
+use Rattle.survey.specs.ByTable.{usedIn}
 use Rattle.image.proofs.Left.{Left, begin, turn, fits, room, long, end}
 use Rattle.profiles.specs.Own.{OwnSound}
 use Rattle.writing.specs.Own.{countsIn, ownOn, afterOf, Placed}

@@ -1,0 +1,310 @@
+// What is wrong with a lent table, in the order of document 01: the checks that measuring makes (6, 8, 9, 10), from one survey of the table, and the
+// check for 2 that only writing makes. Only where some view lies outside the source are they looked at one by one, to tell the first.
+ghost use mathlib.Core.Path.{_≡_};
+ghost use Prim.Native.Nat.{_+_, _*_, _≤_, _<_, min};
+ghost use lib.ListN.{length};
+ghost use Rattle.octets.specs.Octets.{part};
+ghost use Rattle.reference.specs.declared.Check.the-variants.{Pass};
+ghost use Rattle.reference.specs.Checks.{both, each};
+ghost use Rattle.reference.specs.Meaning.{sum};
+ghost use Rattle.reference.specs.Tabled.{usedOf};
+ghost use Rattle.reference.specs.Used.{tapsIn, namesIn, extrasIn, ownedOf};
+ghost use Rattle.reference.specs.Writer.{tapSize, sizeOf, told, measured, usedCheck, sumCheck, counted, countsCheck, viewCheck, entryViews, viewsCheck, shortCheck, extraShort, ownShort, measureCheck};
+ghost use Rattle.table.specs.Flat.{viewFrom, tablesFrom, profileOfTable, profileRegion, tapRegion, extraRegion, tableSize, Lent, tapsUsed, extrasUsed};
+ghost use Rattle.table.specs.Region.{listed};
+ghost use Rattle.survey.specs.ByTable.{usedIn};
+ghost use Rattle.survey.specs.Seen.{holds, passing, Surveyed};
+ghost use Rattle.faults.specs.Short.{shortHere, Within};
+use entries::extra_at;
+use entries::extras_at;
+use entries::profile_view;
+use entries::sort_at;
+use entries::tap_at;
+use entries::taps_at;
+use entries::view_at;
+use reference::Answer;
+use reference::Check;
+use reference::EXTRAS;
+use reference::MOST;
+use reference::NAMES;
+use reference::PLACE_EXTRAS;
+use reference::PLACE_NAMES;
+use reference::PLACE_PROFILES;
+use reference::PLACE_TAPS;
+use reference::PROFILES;
+use reference::TAPS;
+use reference::Tap;
+use reference::View;
+use reference::outside;
+use reference::too_large;
+use reference::too_long;
+use reference::wrong;
+use survey::BOUND;
+use survey::EXTRA_VIEWS_AT;
+use survey::NAME_VIEWS_AT;
+use survey::Survey;
+use survey::TAP_FIXED;
+use survey::VIEW_WIDTH;
+use survey::survey_of;
+use survey::used_at;
+use table::BIOP;
+use table::EXTRA_WIDTH;
+use table::EXTRAS_USED;
+use table::NAMES_USED;
+use table::PROFILES_USED;
+use table::TAP_WIDTH;
+use table::TAPS_AT;
+use table::TAPS_USED;
+use table::TYPE_ID;
+use table::number_at;
+
+// The place of the type id in a refusal.
+const PLACE_TYPE_ID: u8 = 0;
+
+// Where the views of taps begin.
+const TAP_VIEWS_AT: usize = TAPS_AT + 3;
+
+// Inside a component with a length of one octet: ObjectLocation without its key, ConnBinder without its taps, and the most that it may hold.
+const LOCATION_FIXED: usize = 9;
+
+const BINDER_FIXED: usize = 1;
+
+const LONGEST: usize = 255;
+
+// The second check counts only if the first passes.
+fn then(first: Check, second: Check) -> Check
+    ensures { λ r. ⌜ r ≡ both first second ⌝ }
+{
+    match first {
+        Check::Refuse(r) => Check::Refuse(r),
+        Check::Pass => second,
+    }
+}
+
+// 8 for one table: its used count is within its size, and the sum of the profiles' counts.
+fn check_used(used: usize, size: usize, total: usize, place: u8) -> Check
+    ensures { λ r. ⌜ r ≡ both (usedCheck place size used) (sumCheck place total used) ⌝ }
+{
+    if size < used {
+        return Check::Refuse(wrong(8, place));
+    }
+    if total != used {
+        return Check::Refuse(wrong(8, place));
+    }
+    Check::Pass
+}
+
+fn check_counts(t: &[u32], s: Survey) -> Check
+    requires { ⌜ Lent (now t) × (s .taps ≡ counted tapsIn (usedIn (now t) .profiles)) × (s .names ≡ counted namesIn (usedIn (now t) .profiles)) × (s .extras ≡ counted extrasIn (usedIn (now t) .profiles)) ⌝ }
+    ensures { λ r. ⌜ r ≡ countsCheck (tablesFrom (now (t .entry))) ⌝ }
+{
+    if PROFILES < number_at(t, PROFILES_USED) {
+        return Check::Refuse(wrong(8, PLACE_PROFILES));
+    }
+    let taps = check_used(number_at(t, TAPS_USED), TAPS, s.taps, PLACE_TAPS);
+    let names = check_used(number_at(t, NAMES_USED), NAMES, s.names, PLACE_NAMES);
+    let extras = check_used(number_at(t, EXTRAS_USED), EXTRAS, s.extras, PLACE_EXTRAS);
+    then(taps, then(names, extras))
+}
+
+// 9: whether a view lies within a source of n octets; the sum is taken in 64 bits.
+fn check_view(v: View, n: usize, place: u8) -> Check
+    ensures { λ r. ⌜ r ≡ viewCheck n place v ⌝ }
+{
+    if n < v.at as usize + v.len as usize {
+        return Check::Refuse(outside(place, v));
+    }
+    Check::Pass
+}
+
+// 9 for the first `count` profiles, and for the views that stand at first, first + width, ..
+fn check_profiles(t: &[u32], count: usize, n: usize) -> Check
+    requires { ⌜ Lent (now t) × (count ≤ profileRegion .size) ⌝ }
+    ensures { λ r. ⌜ r ≡ each (entryViews n) (listed count (profileOfTable (now (t .entry)))) ⌝ }
+{
+    let mut i: usize = 0;
+    while i < count {
+        let found = check_view(profile_view(t, i), n, PLACE_PROFILES);
+        if let Check::Refuse(r) = found {
+            return Check::Refuse(r);
+        }
+        i += 1;
+    }
+    Check::Pass
+}
+
+fn check_row(t: &[u32], first: usize, width: usize, count: usize, n: usize, place: u8) -> Check
+    requires { ⌜ Lent (now t) × (first + width * count + 2 ≤ tableSize + width) ⌝ }
+    ensures { λ r. ⌜ r ≡ each (viewCheck n place) (listed count (λ i. viewFrom (now (t .entry)) (first + width * i))) ⌝ }
+{
+    let mut i: usize = 0;
+    while i < count {
+        let found = check_view(view_at(t, first + width * i), n, place);
+        if let Check::Refuse(r) = found {
+            return Check::Refuse(r);
+        }
+        i += 1;
+    }
+    Check::Pass
+}
+
+// 9: the type id, then table by table.
+fn check_views(t: &[u32], n: usize) -> Check
+    requires { ⌜ Lent (now t) ⌝ }
+    ensures { λ r. ⌜ r ≡ viewsCheck n (usedIn (now (t .entry))) ⌝ }
+{
+    let type_id = check_view(view_at(t, TYPE_ID), n, PLACE_TYPE_ID);
+    let profiles = check_profiles(t, used_at(t, PROFILES_USED, PROFILES), n);
+    let taps = check_row(
+        t,
+        TAP_VIEWS_AT,
+        TAP_WIDTH,
+        used_at(t, TAPS_USED, TAPS),
+        n,
+        PLACE_TAPS,
+    );
+    let names = check_row(
+        t,
+        NAME_VIEWS_AT,
+        VIEW_WIDTH,
+        2 * used_at(t, NAMES_USED, NAMES),
+        n,
+        PLACE_NAMES,
+    );
+    let extras = check_row(
+        t,
+        EXTRA_VIEWS_AT,
+        EXTRA_WIDTH,
+        used_at(t, EXTRAS_USED, EXTRAS),
+        n,
+        PLACE_EXTRAS,
+    );
+    then(type_id, then(profiles, then(taps, then(names, extras))))
+}
+
+// 9, where the mark of all ends is known.
+fn check_ends(t: &[u32], n: usize, ends: usize) -> Check
+    requires { ⌜ Lent (now t) × (holds ends ≡ passing (viewsCheck n (usedIn (now t)))) ⌝ }
+    ensures { λ r. ⌜ r ≡ viewsCheck n (usedIn (now (t .entry))) ⌝ }
+{
+    if ends < BOUND {
+        return Check::Pass;
+    }
+    check_views(t, n)
+}
+
+// The image's length over a source of n octets, by a survey of the table; or 6, 8, 9 or 10.
+pub fn length_by(s: Survey, t: &[u32], n: usize) -> Answer
+    requires { ⌜ Lent (now t) × Surveyed (min n 65535) (now t) s ⌝ }
+    ensures { λ r. ⌜ r ≡ told (measureCheck (tablesFrom (now (t .entry))) n) (sizeOf (usedOf (tablesFrom (now (t .entry))))) ⌝ }
+{
+    if MOST < n {
+        return Answer::Refused(too_large(6, n));
+    }
+    let counts = check_counts(t, s);
+    if let Check::Refuse(r) = counts {
+        return Answer::Refused(r);
+    }
+    let views = check_ends(t, n, s.ends);
+    if let Check::Refuse(r) = views {
+        return Answer::Refused(r);
+    }
+    if MOST < s.octets {
+        return Answer::Refused(too_large(10, s.octets));
+    }
+    Answer::Count(s.octets)
+}
+
+// The image's length over src.
+pub fn length_from(t: &[u32], src: &[u8]) -> Answer
+    requires { ⌜ Lent (now t) ⌝ }
+    ensures { λ r. ⌜ r ≡ measured (tablesFrom (now (t .entry))) (now (src .entry)) ⌝ }
+{
+    length_by(survey_of(t, src.len()), t, src.len())
+}
+
+// 2: whether a component's length fits one octet.
+fn check_short(size: usize) -> Check
+    ensures { λ r. ⌜ r ≡ shortCheck size ⌝ }
+{
+    if LONGEST < size {
+        return Check::Refuse(too_long(0, size, LONGEST));
+    }
+    Check::Pass
+}
+
+fn tap_size(tap: Tap) -> usize
+    ensures { λ r. ⌜ (r ≡ tapSize tap) × (r < 0x200000000) ⌝ }
+{
+    TAP_FIXED + tap.selector.len as usize
+}
+
+// The octets of `count` taps from `first` on.
+fn taps_size(t: &[u32], first: usize, count: usize) -> usize
+    requires { ⌜ Lent (now t) × (tapsUsed (now t) ≤ tapRegion .size) × (first + count ≤ tapsUsed (now t)) ⌝ }
+    ensures { λ r. ⌜ (r ≡ sum tapSize (part (usedIn (now (t .entry)) .taps) first count)) × (r < 0x10000000000) ⌝ }
+{
+    let mut total: usize = 0;
+    let mut i: usize = 0;
+    while i < count {
+        let k = first + i;
+        let tap = tap_at(t, k);
+        total += tap_size(tap);
+        i += 1;
+    }
+    total
+}
+
+// 2 for each of `count` extras from `first` on.
+fn check_extras(t: &[u32], first: usize, count: usize) -> Check
+    requires { ⌜ Lent (now t) × (extrasUsed (now t) ≤ extraRegion .size) × (first + count ≤ extrasUsed (now t)) ⌝ }
+    ensures { λ r. ⌜ r ≡ each extraShort (part (usedIn (now (t .entry)) .extras) first count) ⌝ }
+{
+    let mut i: usize = 0;
+    while i < count {
+        let k = first + i;
+        let extra = extra_at(t, k);
+        let found = check_short(extra.data.len as usize);
+        if let Check::Refuse(r) = found {
+            return Check::Refuse(r);
+        }
+        i += 1;
+    }
+    Check::Pass
+}
+
+// 2 for profile i, whose taps and extras begin at `tap` and `extra`: ObjectLocation, ConnBinder, extras.
+fn check_profile(t: &[u32], i: usize, tap: usize, extra: usize) -> Check
+    requires { ⌜ Within (now t) i tap extra ⌝ }
+    ensures { λ r. ⌜ r ≡ shortHere (now (t .entry)) i tap extra ⌝ }
+{
+    let extras = check_extras(t, extra, extras_at(t, i));
+    if sort_at(t, i) != BIOP {
+        return extras;
+    }
+    let key = profile_view(t, i);
+    let location = check_short(LOCATION_FIXED + key.len as usize);
+    let binder = check_short(BINDER_FIXED + taps_size(t, tap, taps_at(t, i)));
+    then(location, then(binder, extras))
+}
+
+// 2, profile by profile.
+pub fn check_sizes(t: &[u32]) -> Check
+    requires { ⌜ Lent (now t) × (countsCheck (tablesFrom (now t)) ≡ Pass) ⌝ }
+    ensures { λ r. ⌜ r ≡ each ownShort (ownedOf (usedOf (tablesFrom (now (t .entry))))) ⌝ }
+{
+    let used = number_at(t, PROFILES_USED);
+    let mut tap: usize = 0;
+    let mut extra: usize = 0;
+    let mut i: usize = 0;
+    while i < used {
+        let found = check_profile(t, i, tap, extra);
+        if let Check::Refuse(r) = found {
+            return Check::Refuse(r);
+        }
+        tap += taps_at(t, i);
+        extra += extras_at(t, i);
+        i += 1;
+    }
+    Check::Pass
+}

@@ -1,6 +1,0 @@
-pub mod Listed
-pub mod Going
-pub mod Tables
-pub mod ByTable
-pub mod Order
-pub mod Short

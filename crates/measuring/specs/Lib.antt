@@ -1,2 +1,0 @@
-pub mod ByTable
-pub mod Short

@@ -1,6 +1,0 @@
-pub mod Marks
-pub mod Sharing
-pub mod Upto
-pub mod Lists
-pub mod Whole
-pub mod Together

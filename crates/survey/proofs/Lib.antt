@@ -1,0 +1,9 @@
+pub mod Every
+pub mod Sorts
+pub mod Alike
+pub mod Read
+pub mod Uncut
+pub mod Marks
+pub mod Seeing
+pub mod Rows
+pub mod Whole

@@ -1,0 +1,4 @@
+pub mod Exact
+pub mod Uncut
+pub mod ByTable
+pub mod Seen
