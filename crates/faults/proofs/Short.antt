@@ -24,7 +24,7 @@ use Rattle.reference.specs.Writer.{tapSize, counted, shortCheck, extraShort, ow
 use Rattle.reference.proofs.Checks.{stop, go}
 use Rattle.reference.proofs.Walk.{ahead, ahead-open, ahead-end, counted-open, counted-within}
 use Rattle.table.specs.Flat.{bodyFrom, bodyOfTable, Lent, profilesUsed, profileOfTable}
-use Rattle.entries.proofs.Sorts.{body-biop, body-lite, body-opaque}
+use Rattle.table_entries.proofs.Sorts.{body-biop, body-lite, body-opaque}
 use Rattle.survey.specs.ByTable.{usedIn}
 use Rattle.faults.specs.Short.{shortAt, shortHere, Within}
 use Rattle.faults.proofs.Listed.{Listed}

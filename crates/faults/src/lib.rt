@@ -15,13 +15,6 @@ ghost use Rattle.table.specs.Region.{listed};
 ghost use Rattle.survey.specs.ByTable.{usedIn};
 ghost use Rattle.survey.specs.Seen.{holds, passing, Surveyed};
 ghost use Rattle.faults.specs.Short.{shortHere, Within};
-use entries::extra_at;
-use entries::extras_at;
-use entries::profile_view;
-use entries::sort_at;
-use entries::tap_at;
-use entries::taps_at;
-use entries::view_at;
 use reference::Answer;
 use reference::Check;
 use reference::EXTRAS;
@@ -57,6 +50,13 @@ use table::TAPS_AT;
 use table::TAPS_USED;
 use table::TYPE_ID;
 use table::number_at;
+use table_entries::extra_at;
+use table_entries::extras_at;
+use table_entries::profile_view;
+use table_entries::sort_at;
+use table_entries::tap_at;
+use table_entries::taps_at;
+use table_entries::view_at;
 
 // The place of the type id in a refusal.
 const PLACE_TYPE_ID: u8 = 0;

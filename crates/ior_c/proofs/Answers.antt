@@ -23,7 +23,7 @@ use Rattle.reference.proofs.Asked.{picks-first, picks-second}
 use Rattle.table.specs.Region.{entry}
 use Rattle.table.specs.Flat.{tablesFrom, bodyFrom, profileRegion, profilesUsed, profileOfTable, biopFrom, liteFrom, opaqueFrom}
 use Rattle.table.proofs.Entries.{profiles-length, profile-entry}
-use Rattle.entries.proofs.Sorts.{body-biop}
+use Rattle.table_entries.proofs.Sorts.{body-biop}
 use Rattle.questions.proofs.Cases.{ahead, first-over, first-within, first-start, first-here, first-later, first-end}
 use Rattle.ior_c.specs.Said.{typeNumber}
 

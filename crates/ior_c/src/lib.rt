@@ -8,7 +8,6 @@ ghost use Rattle.reference.specs.Questions.{firstBiop};
 ghost use Rattle.table.specs.Flat.{tablesFrom, nameFrom, nameNumbers, Lent};
 ghost use Rattle.ior_c.specs.Calls.{IorRead, IorReadWhole, IorLength, IorWrite, IorKind, IorTap, IorFirstBiop, IorDvbAddress, IorNameRead, IorNameWrite};
 ghost use Rattle.ior_c.specs.Said.{numberOf, numbersOf, sized, askable, kindNumber, typeNumber, tapResult, tapPair, firstSaid};
-use entries::sort_at;
 use faults::length_by;
 use names::ShortNameRead;
 use names::read_short_name;
@@ -36,6 +35,7 @@ use table::PROFILES_USED;
 use table::SIZE;
 use table::number_at;
 use table::put_all;
+use table_entries::sort_at;
 use writing::write_by;
 
 // What each function answers when an array has another length than it must have, or a table is not exact.

@@ -1,12 +1,12 @@
 // The listing of a cache that comes from a file descriptor, to standard output, in blocks. What octets mean and what a line says is decided in
 // crate cache, how they come in crate intake.
-use cache::put_broken;
-use cache::put_end;
-use cache::put_heading;
-use cache::put_rows;
 use intake::fetch;
 use libc::STDOUT_FILENO;
 use outcome::Outcome;
+use rows::put_broken;
+use rows::put_end;
+use rows::put_heading;
+use rows::put_rows;
 use table::SIZE;
 ghost use Prim.Native.Nat.{_≤_};
 ghost use lib.ListN.{length};

@@ -21,9 +21,9 @@ use Rattle.table.specs.Region.{entry, stored}
 use Rattle.table.specs.Flat.{profileRegion, bodyNumbers, Lent}
 use Rattle.table.proofs.Filed.{filed-opaque}
 use Rattle.table.proofs.Stored.{stored-in, stored-out}
-use Rattle.components.specs.declared.BodyRead.{BodyRead}
-use Rattle.components.specs.declared.BodyRead.the-variants as Bodies
-use Rattle.components.specs.Told.{bodyKept, StoresBody}
+use Rattle.read_parts.specs.declared.BodyRead.{BodyRead}
+use Rattle.read_parts.specs.declared.BodyRead.the-variants as Bodies
+use Rattle.read_parts.specs.Told.{bodyKept, StoresBody}
 
 module _ (at : ℕ) (t : List ℕ) (i : ℕ) (u : Counts) (tag : ℕ) (d e : List ℕ) where
   abbrev Told : Answer Profile → BodyRead → Type 0

@@ -24,10 +24,10 @@ use Rattle.table.specs.Flat.{profileRegion, tapRegion, nameRegion, extraRegion,
 use Rattle.table.specs.Filed.{countsAfter, profileFiled, profilesFiled, noCounts}
 use Rattle.table.proofs.Stored.{stored-none}
 use Rattle.table.proofs.Filed.{profiles-more, filed-length}
-use Rattle.components.specs.declared.BodyRead.{BodyRead}
-use Rattle.components.specs.declared.BodyRead.the-variants as Bodies
-use Rattle.components.specs.Told.{Filled, bodyTold, StoresBody}
-use Rattle.components.proofs.Moves.{octets-of-slice, moved}
+use Rattle.read_parts.specs.declared.BodyRead.{BodyRead}
+use Rattle.read_parts.specs.declared.BodyRead.the-variants as Bodies
+use Rattle.read_parts.specs.Told.{Filled, bodyTold, StoresBody}
+use Rattle.read_parts.proofs.Moves.{octets-of-slice, moved}
 use Rattle.reading.specs.declared.HeaderRead.{HeaderRead}
 use Rattle.reading.specs.declared.HeaderRead.the-variants as Headers
 use Rattle.reading.specs.declared.ProfilesRead.{ProfilesRead}

@@ -27,8 +27,8 @@ use Rattle.reference.proofs.Same.{same-saying, used-agrees, used-shows, used-gi
 use Rattle.table.specs.Flat.{tablesFrom, Lent, tableSize}
 use Rattle.table.specs.Filed.{referenceFiled}
 use Rattle.table.proofs.Lent.{read-files, read-length}
-use Rattle.by_value.proofs.Accepted as accepted
-use Rattle.by_value.proofs.Back.{tables-cleared}
+use Rattle.table_struct.proofs.Accepted as accepted
+use Rattle.table_struct.proofs.Back.{tables-cleared}
 use Rattle.reading.specs.Into.{tableLeft, ReadInto}
 use Rattle.reading.specs.Lent.{ShowsInto}
 

@@ -28,8 +28,8 @@ use Rattle.reference.proofs.Heads.{profilesBehind, leading-cut, whole-cut}
 use Rattle.table.specs.declared.Counts.{Counts}
 use Rattle.table.specs.Flat.{frontNumbers, tableSize}
 use Rattle.table.specs.Filed.{profilesFiled, noCounts, referenceFiled}
-use Rattle.components.specs.Told.{Filled}
-use Rattle.components.proofs.Moves.{octets-of-slice}
+use Rattle.read_parts.specs.Told.{Filled}
+use Rattle.read_parts.proofs.Moves.{octets-of-slice}
 use Rattle.reading.specs.declared.HeadRead.{HeadRead}
 use Rattle.reading.specs.declared.HeadRead.the-variants as Heads
 use Rattle.reading.specs.declared.ProfilesRead.{ProfilesRead}

@@ -15,9 +15,9 @@ use Rattle.reference.specs.Steps.{Answer, ok, refused}
 use Rattle.reference.specs.Reader.{readLeading, readWhole, answered}
 use Rattle.reference.proofs.Accept.{only-accepted, only-whole}
 use Rattle.table.specs.Flat.{tablesFrom, tableSize}
-use Rattle.components.proofs.Moves.{octets-of-slice}
-use Rattle.by_value.proofs.Accepted.{tables-read}
-use Rattle.by_value.proofs.Back.{tables-cleared}
+use Rattle.read_parts.proofs.Moves.{octets-of-slice}
+use Rattle.table_struct.proofs.Accepted.{tables-read}
+use Rattle.table_struct.proofs.Back.{tables-cleared}
 use Rattle.reading.specs.Into.{tableLeft, ReadInto}
 
 -- ---- what was accepted is well formed and fits

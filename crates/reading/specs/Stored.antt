@@ -8,7 +8,7 @@ use Rattle.reference.specs.Meaning.{Profile, tapsOf, namesOf, extrasOf, sum}
 use Rattle.reference.specs.Steps.{Answer, ok, refused, seen}
 use Rattle.table.specs.declared.Counts.{Counts}
 use Rattle.table.specs.Filed.{profilesFiled, noCounts}
-use Rattle.components.specs.Told.{Filled}
+use Rattle.read_parts.specs.Told.{Filled}
 use Rattle.reading.specs.declared.ProfilesRead.{ProfilesRead}
 use Rattle.reading.specs.declared.ProfilesRead.the-variants as Ways
 

@@ -10,15 +10,14 @@ ghost use Rattle.reference.specs.Reader.{readBody, readProfile, readLeading, re
 ghost use Rattle.reference.specs.Heads.{readHeader};
 ghost use Rattle.table.specs.Flat.{frontNumbers, Lent};
 ghost use Rattle.table.specs.Filed.{referenceFiled};
-ghost use Rattle.components.specs.Told.{StoresBody};
+ghost use Rattle.read_parts.specs.Told.{StoresBody};
 ghost use Rattle.reading.specs.Open.{headerTold, HeadIn, rooms, ends, passing, readAs};
 ghost use Rattle.reading.specs.Stored.{StoresProfiles, Leaves};
 ghost use Rattle.reading.specs.Into.{ReadInto};
-use biop::read_biop;
-use by_value::tables_of;
-use components::BodyRead;
-use lite_options::read_lite;
 use octets::be32;
+use read_biop::read_biop;
+use read_lite::read_lite;
+use read_parts::BodyRead;
 use reference::Answer;
 use reference::Check;
 use reference::EXTRAS;
@@ -52,6 +51,7 @@ use table::SIZE;
 use table::clear;
 use table::put_front;
 use table::put_opaque;
+use table_struct::tables_of;
 
 // The header of a profile: its tag, and how many octets of data follow it.
 enum HeaderRead {

@@ -22,8 +22,8 @@ use Rattle.reference.specs.Writer.{tapSize, extraSize, locationSize, binderSize
 use Rattle.reference.proofs.Checks.{passes, passed, test-le, le-test, each-cons, cons-each, each-nil}
 use Rattle.reference.proofs.Sizes.{ownViews, views-own}
 use Rattle.reference.proofs.Formed.{Passing}
-use Rattle.image.specs.Sound.{Within, TapSound, NameSound, ExtraSound}
-use Rattle.profiles.specs.Own.{BodySound, OwnSound}
+use Rattle.write_parts.specs.Sound.{Within, TapSound, NameSound, ExtraSound}
+use Rattle.write_bodies.specs.Own.{BodySound, OwnSound}
 
 module _ (n : ℕ) where
   taps-sound : (l : List Tap) → each (tapViews n) l ≡ Pass → sum tapSize l ≤ 254 → Each (TapSound n) l

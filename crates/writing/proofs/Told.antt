@@ -11,7 +11,7 @@ use Rattle.reference.specs.declared.TaggedProfile.the-variants as Sort
 use Rattle.reference.specs.Used.{tapsIn, namesIn, extrasIn, bodyView}
 use Rattle.table.specs.declared.Counts.{Counts}
 use Rattle.table.specs.Flat.{bodyFrom, locationFrom, addressFrom}
-use Rattle.entries.proofs.Sorts.{body-biop, body-lite, body-opaque}
+use Rattle.table_entries.proofs.Sorts.{body-biop, body-lite, body-opaque}
 use Rattle.writing.specs.Own.{countsIn}
 
 module _ (t : List ℕ) (i : ℕ) where

@@ -5,7 +5,7 @@ use Rattle.reference.specs.declared.TaggedProfile.{TaggedProfile}
 use Rattle.reference.specs.Used.{Own, tapsIn, namesIn, extrasIn}
 use Rattle.table.specs.declared.Counts.{Counts}
 use Rattle.table.specs.Flat.{bodyOfTable, tapRegion, nameRegion, extraRegion}
-use Rattle.profiles.specs.Own.{tapsOn, namesOn, extrasOn}
+use Rattle.write_bodies.specs.Own.{tapsOn, namesOn, extrasOn}
 
 -- how many entries a profile counts
 abbrev pub countsIn : TaggedProfile → Counts

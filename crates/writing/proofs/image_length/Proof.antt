@@ -5,7 +5,7 @@ use Rattle.reference.specs.declared.Tables.{Tables}
 use Rattle.reference.specs.Writer.{measured}
 use Rattle.reference.proofs.Good.{typed}
 use Rattle.table.specs.Flat.{tablesFrom}
-use Rattle.by_value.proofs.Back.{tables-flat}
+use Rattle.table_struct.proofs.Back.{tables-flat}
 use Rattle.writing.proofs.image_length.Statement.{statement}
 use Rattle.writing.proofs.image_length.Tie as tie
 

@@ -4,7 +4,7 @@ use mathlib.Core.Path.{ap, _∙_, subst}
 use Rattle.reference.specs.declared.Tables.{Tables}
 use Rattle.reference.proofs.Good.{typed}
 use Rattle.table.specs.Flat.{tablesFrom}
-use Rattle.by_value.proofs.Back.{tables-flat}
+use Rattle.table_struct.proofs.Back.{tables-flat}
 use Rattle.writing.specs.Writes.{Writes}
 use Rattle.writing.proofs.write.Statement.{statement}
 use Rattle.writing.proofs.write.Tie as tie

@@ -18,8 +18,8 @@ use Rattle.reference.specs.Writer.{ownSize, sizeOf, imageOf, writeCheck}
 use Rattle.reference.proofs.Formed.{Passing, passing}
 use Rattle.table.specs.Flat.{tablesFrom}
 use Rattle.table.proofs.Entries.{type-id-entry}
-use Rattle.image.specs.Sound.{prefixed, Within}
-use Rattle.image.proofs.Laid.{last, onto}
+use Rattle.write_parts.specs.Sound.{prefixed, Within}
+use Rattle.write_parts.proofs.Laid.{last, onto}
 use Rattle.writing.proofs.Walked.{meanings-count}
 use Rattle.writing.proofs.Checked.{type-within, whole-room}
 use Rattle.writing.proofs.write_image.Statement.{statement}

@@ -8,7 +8,7 @@ use Rattle.reference.specs.declared.TaggedProfile.{TaggedProfile}
 use Rattle.reference.specs.declared.TaggedProfile.the-variants as Sort
 use Rattle.reference.specs.Writer.{ownSize}
 use Rattle.table.specs.Flat.{bodyOfTable}
-use Rattle.profiles.specs.Own.{OwnSound, PutOwn}
+use Rattle.write_bodies.specs.Own.{OwnSound, PutOwn}
 use Rattle.writing.specs.Own.{ownWith}
 use Rattle.writing.proofs.Told.{biop-told, lite-told, opaque-told}
 use Rattle.writing.proofs.write_profile.Statement.{statement}

@@ -13,8 +13,8 @@ use Rattle.table.specs.declared.Counts.{Counts}
 use Rattle.table.specs.Flat.{tablesFrom, bodyOfTable}
 use Rattle.table.proofs.Entries.{profiles-used}
 use Rattle.survey.specs.ByTable.{usedIn}
-use Rattle.image.proofs.Left.{Left, begin, turn, fits, room, long, end}
-use Rattle.profiles.specs.Own.{OwnSound}
+use Rattle.write_parts.proofs.Left.{Left, begin, turn, fits, room, long, end}
+use Rattle.write_bodies.specs.Own.{OwnSound}
 use Rattle.writing.specs.Own.{countsIn, ownOn, afterOf, Placed}
 use Rattle.writing.proofs.Walked.{leftAt, Walked, left-end, walk-placed, walk-on, walk-open}
 use Rattle.writing.proofs.Checked.{used-sound}

@@ -1,0 +1,128 @@
+// The rows of a cache's listing as octets.
+ghost use mathlib.Core.Path.{_≡_};
+ghost use Prim.Native.Nat.{_+_, _≤_, _<_};
+ghost use lib.ListN.{length};
+ghost use Rattle.text.specs.Written.{Written};
+ghost use Rattle.reference.specs.Reader.{readWhole};
+ghost use Rattle.rows.specs.Rows.{heading, rowOf, endText, brokenText, foundText, refusedText, answerText, Listed};
+ghost use Rattle.table.specs.Flat.{Lent};
+use lines::put_kind;
+use questions::object_kind;
+use reading::read_whole_into;
+use records::Record;
+use records::record_at;
+use reference::Answer;
+use reference::ObjectKind;
+use text::put_decimal;
+use text::put_octet;
+use text::put_spaced;
+use text::put_word;
+
+// What an accepted reference's row says: kind, number of profiles and 0.
+fn put_found(kind: ObjectKind, profiles: u32, out: &mut [u8], at: usize) -> usize
+    requires { ⌜ at + 31 ≤ length (now out) ⌝ }
+    ensures { λ r. ⌜ Written (now (out .entry)) at 31 (foundText kind profiles) (now (out .exit)) r ⌝ }
+{
+    let count = put_kind(out, at, kind);
+    let zero = put_spaced(out, count, profiles as u64);
+    put_word(out, zero, b" 0")
+}
+
+// What a refused one's says: `- -` and the refusal's number.
+fn put_refused(number: u8, out: &mut [u8], at: usize) -> usize
+    requires { ⌜ at + 31 ≤ length (now out) ⌝ }
+    ensures { λ r. ⌜ Written (now (out .entry)) at 31 (refusedText number) (now (out .exit)) r ⌝ }
+{
+    let next = put_word(out, at, b"- -");
+    put_spaced(out, next, number as u64)
+}
+
+// What the row says behind the record's length. The reading goes into a lent table, whatever that held.
+fn put_answer(s: &[u8], table: &mut [u32], out: &mut [u8], at: usize) -> usize
+    requires { ⌜ (Lent (now table)) × (at + 31 ≤ length (now out)) ⌝ }
+    ensures { λ r. ⌜ Written (now (out .entry)) at 31 (answerText (readWhole (now (s .entry)))) (now (out .exit)) r ⌝ }
+{
+    match read_whole_into(s, table) {
+        Answer::Refused(why) => put_refused(why.number, out, at),
+        Answer::Count(_) => {
+            let start = table[0] as usize;
+            let stop = start + table[1] as usize;
+            let kind = object_kind(&s[start..stop]);
+            put_found(kind, table[2], out, at)
+        }
+    }
+}
+
+// The row of record `number`, whose reference is s: the index behind it. Any line of the listing fits 80.
+fn put_row(number: u64, s: &[u8], table: &mut [u32], out: &mut [u8], at: usize) -> usize
+    requires { ⌜ (Lent (now table)) × (at + 80 ≤ length (now out)) ⌝ }
+    ensures { λ r. ⌜ Written (now (out .entry)) at 80 (rowOf number (now (s .entry))) (now (out .exit)) r ⌝ }
+{
+    let size = put_decimal(out, at, number);
+    let gap = put_spaced(out, size, s.len() as u64);
+    let kind = put_octet(out, gap, b' ');
+    let end = put_answer(s, table, out, kind);
+    put_octet(out, end, b'\n')
+}
+
+// How far the rows of a block go: the records before `next` are listed, `seen` in all, in the first `used` octets of a page. The page is full, or
+// no whole record stands at `next`.
+pub struct Rows {
+    pub next: usize,
+    pub seen: u64,
+    pub used: usize,
+    pub is_full: bool,
+}
+
+// The rows of the records that stand whole in a block from `at` on, after `seen` others, as many as surely fit the page.
+pub fn put_rows(block: &[u8], at: usize, seen: u64, table: &mut [u32], page: &mut [u8]) -> Rows
+    requires { ⌜ (at ≤ length (now block)) × (seen + length (now block) < 0x10000000000000000) × Lent (now table) × (length (now page) < 0x8000000000000000) ⌝ }
+    ensures { λ r. ⌜ Listed (now (block .entry)) at seen (now (page .exit)) r ⌝ }
+{
+    let room = page.len();
+    let mut next = at;
+    let mut count = seen;
+    let mut used: usize = 0;
+    while used + 80 <= room {
+        let Record::Got { start, stop } = record_at(block, next) else {
+            return Rows {
+                next,
+                seen: count,
+                used,
+                is_full: false,
+            };
+        };
+        count += 1;
+        used = put_row(count, &block[start..stop], table, page, used);
+        next = stop;
+    }
+    Rows {
+        next,
+        seen: count,
+        used,
+        is_full: true,
+    }
+}
+
+// The listing's first line, and its last, after so many records or where a mark is wrong or a record cut.
+pub fn put_heading(out: &mut [u8; 80]) -> usize
+    ensures { λ r. ⌜ Written (now (out .entry)) 0 80 heading (now (out .exit)) r ⌝ }
+{
+    put_word(out, 0, b"record bytes kind profiles refusal\n")
+}
+
+pub fn put_end(count: u64, out: &mut [u8; 80]) -> usize
+    ensures { λ r. ⌜ Written (now (out .entry)) 0 80 (endText count) (now (out .exit)) r ⌝ }
+{
+    let number = put_word(out, 0, b"end");
+    let end = put_spaced(out, number, count);
+    put_octet(out, end, b'\n')
+}
+
+pub fn put_broken(at: u64, out: &mut [u8; 80]) -> usize
+    ensures { λ r. ⌜ Written (now (out .entry)) 0 80 (brokenText at) (now (out .exit)) r ⌝ }
+{
+    let number = put_word(out, 0, b"broken at");
+    let end = put_spaced(out, number, at);
+    put_octet(out, end, b'\n')
+}

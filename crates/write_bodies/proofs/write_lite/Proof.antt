@@ -1,0 +1,42 @@
+-- `write_bodies::write_lite` meets its contract. The data, then the header before it. Assumes nothing.
+use borrow.Author.Needs.{needs}
+use native.Mathlib.Omega.{arith}
+use Rattle.reference.specs.Layout.{tag-lite, tagOf, dataOf, layoutProfile}
+use Rattle.write_parts.proofs.Laid.{header-after}
+use Rattle.write_bodies.proofs.write_lite.Statement.{statement}
+use Rattle.write_bodies.proofs.write_lite.Tie as tie
+
+add-body : tie.Need-add-body
+add-body c = search needs
+
+write-lite-data-requires : tie.Need-write-lite-data-requires
+write-lite-data-requires c κs =
+    let s = c .before .before .before .before in
+    (s .pre .0, (s .pre .1 .0, omega arith))
+
+sub-write-long-header : tie.Need-sub-write-long-header
+sub-write-long-header c = search needs
+
+write-long-header-requires : tie.Need-write-long-header-requires
+write-long-header-requires c κs = search needs
+
+same-length : tie.Need-same-length
+same-length c = search needs
+
+returns : tie.Need-returns
+unfolding layoutProfile tagOf dataOf
+returns c =
+    let w = c .before .before in
+    let p = w .before .before .before .before in
+    header-after 4 tag-lite (p .write-lite-data .ensures) (w .write-long-header .ensures)
+
+pub write-lite-spec : {M : Type 1} → statement M
+write-lite-spec =
+    tie.close
+    (tie.spec
+    add-body
+    write-lite-data-requires
+    sub-write-long-header
+    write-long-header-requires
+    same-length
+    returns)
