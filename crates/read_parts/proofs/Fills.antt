@@ -1,6 +1,6 @@
 -- A loop that reads entries and stores each into a lent table: what is left to do does what was to be done; and what a caller knows of such
 -- a run in each arm of its match. Assumes nothing.
-use Prim.Native.Nat.{ℕ, suc, _+_, _-_, _*_, _<_, _≤_}
+use Prim.Native.Nat.{ℕ, suc, _+_, _-_, _<_, _≤_}
 use mathlib.Core.Path.{_≡_, refl, sym, ap, ap₂, _∙_}
 use mathlib.Core.List.{List, [], _∷_}
 use mathlib.Core.Logic.{_≢_}
@@ -17,8 +17,8 @@ use Rattle.reference.specs.Refusals.{leftAt}
 use Rattle.reference.specs.Placed.{placed}
 use Rattle.reference.proofs.Laws.{Reads}
 use Rattle.reference.proofs.Steps.{seen-ok, seen-no, ending-no, ending-left, ending-ok}
-use Rattle.table.specs.Region.{Region, stored}
-use Rattle.table.specs.Flat.{Lent}
+use Rattle.table.specs.Region.{Region, entry, past, stored}
+use Rattle.table.specs.Flat.{tableSize, Lent}
 use Rattle.table.proofs.Stored.{stored-none, stored-append, stored-length, stored-in, stored-out}
 use Rattle.read_parts.specs.declared.Ended.{Ended}
 use Rattle.read_parts.specs.declared.Ended.the-variants as Ends
@@ -52,7 +52,7 @@ module _ {A E : Type 0} (g : Region E) (f : ℕ → A → E) (lay : A → List �
     unfolding many
     leaves-not n pos t k e = rw e
 
-    leaves-more : (n pos : ℕ) (t : List ℕ) (k : ℕ) {a : A} {next : ℕ} → r d pos end ≡ ok a next → next ≡ pos + length (lay a) → g .start + g .width * g .size ≤ length t
+    leaves-more : (n pos : ℕ) (t : List ℕ) (k : ℕ) {a : A} {next : ℕ} → r d pos end ≡ ok a next → next ≡ pos + length (lay a) → past g ≤ length t
         → leaves (suc n) pos t k ≡ leaves n next (stored g t k (f (base + pos) a ∷ [])) (k + 1)
     unfolding many
     leaves-more n pos t k {a} {next} e s h = rw e (go (many n r d next end))
@@ -123,14 +123,15 @@ module _ {E R : Type 0} (told : R → Answer E) {A : Type 0} {g : Region E} {f :
     ending-one-no place w q e = record { told = ap (kept g f lay (base + pos) t₀ first) (sym (ending-no d pos end place (many n r) (turn-no w q e))) }
 
 -- an entry more, of which it is told by `got`
-module _ {E R : Type 0} (told : R → Answer E) (got : E → ℕ → R) (tells : (e : E) (m : ℕ) → told (got e m) ≡ ok e m) {A : Type 0} {r : Reader A} {lay : A → List ℕ} {good : A → Type 0} (reads : Reads 0 r lay good)
-    {g : Region E} {f : ℕ → A → E} {d : List ℕ} {base end n pos first : ℕ} {t₀ t : List ℕ} {cur i : ℕ} (h : Fills g f lay r d base end n pos t₀ first t cur i) (v : R) (read : told v ≡ seen (f (base + cur)) (r d cur end)) (l : i < n)
-    {e : E} {next cur′ : ℕ} {t′ : List ℕ} (octs : (k : ℕ) → Fits w8 (getD d k 0)) (fits : end ≤ length d) (lent : Lent t₀) (held : T (leb (g .start + g .width * g .size) 490)) (q : v ≡ got e next) (c : cur′ ≡ next) where
+module _ {E R : Type 0} (told : R → Answer E) (got : E → ℕ → R) (tells : (e : E) (m : ℕ) → told (got e m) ≡ ok e m) {A : Type 0} {r : Reader A} {lay : A → List ℕ} {good : A → Type 0}
+    (reads : Reads 0 r lay good) {g : Region E} {f : ℕ → A → E} {d : List ℕ} {base end n pos first : ℕ} {t₀ t : List ℕ} {cur i : ℕ} (h : Fills g f lay r d base end n pos t₀ first t cur i)
+    (v : R) (read : told v ≡ seen (f (base + cur)) (r d cur end)) (l : i < n) {e : E} {next cur′ : ℕ} {t′ : List ℕ} (octs : (k : ℕ) → Fits w8 (getD d k 0)) (fits : end ≤ length d)
+    (lent : Lent t₀) (held : T (leb (past g) tableSize)) (q : v ≡ got e next) (c : cur′ ≡ next) where
   one-more : t′ ≡ stored g t (first + i) (e ∷ []) → Fills g f lay r d base end n pos t₀ first t′ cur′ (i + 1)
   one-more s =
       let (a, p, ev) = seen-ok (f (base + cur)) (r d cur end) (sym read ∙ ap told q ∙ tells e next) in
       let (inside, span) = moved reads d cur end (octets-of-slice d (λ k. octs k .fits)) (h .inside) fits p in
-      let k : g .start + g .width * g .size ≤ length t = omega (arith, h .long, leb→le (g .start + g .width * g .size) 490 held) in
+      let k : past g ≤ length t = omega (arith, h .long, leb→le (past g) tableSize held) in
       let s′ = s ∙ ap (λ (x : E). stored g t (first + i) (x ∷ [])) ev in
       record {
         inside = omega arith;
@@ -142,7 +143,7 @@ module _ {E R : Type 0} (told : R → Answer E) (got : E → ℕ → R) (tells :
             ∙ ap₂ (λ (x : List ℕ) (j : ℕ). leaves g f lay r d base end (n - (i + 1)) cur′ x j) (sym s′) (add-assoc first i 1);
       }
 
-  pub one-in : {t″ : List ℕ} → first + i < g .size → t″ ≡ splice t (g .start + g .width * (first + i)) (g .numbers e) → t′ ≡ t″ → Fills g f lay r d base end n pos t₀ first t′ cur′ (i + 1)
+  pub one-in : {t″ : List ℕ} → first + i < g .size → t″ ≡ splice t (entry g (first + i)) (g .numbers e) → t′ ≡ t″ → Fills g f lay r d base end n pos t₀ first t′ cur′ (i + 1)
   one-in room p s = one-more (stored-in g t (first + i) e room (s ∙ p))
 
   pub one-out : g .size ≤ first + i → t′ ≡ t → Fills g f lay r d base end n pos t₀ first t′ cur′ (i + 1)
