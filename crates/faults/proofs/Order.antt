@@ -27,13 +27,31 @@ too-many-profiles t h = stop (usedCheck 40 8 (profilesUsed t)) _ _ (lt-test (pro
 abbrev table-check : ℕ → ℕ → ℕ → ℕ → Check
 table-check place size total used = both (usedCheck place size used) (sumCheck place total used)
 
-pub table-by-table : (t : List ℕ) → profilesUsed t ≤ profileRegion .size → {a b d : ℕ} → a ≡ counted tapsIn (usedIn t .profiles) → b ≡ counted namesIn (usedIn t .profiles) → d ≡ counted extrasIn (usedIn t .profiles)
-    → {taps names extras : ℕ} → taps ≡ tapsUsed t → names ≡ namesUsed t → extras ≡ extrasUsed t
-    → both (table-check 41 36 a taps) (both (table-check 42 32 b names) (table-check 43 32 d extras)) ≡ countsCheck (tablesFrom t)
-unfolding countsCheck tablesFrom
-table-by-table t h p q r taps names extras =
-    (λ j. both (table-check 41 36 (p j) (taps j)) (both (table-check 42 32 (q j) (names j)) (table-check 43 32 (r j) (extras j))))
-    ∙ sym (go (usedCheck 40 8 (profilesUsed t)) _ (le-test (profilesUsed t) 8 _ h))
+module _ (t : List ℕ) (few : profilesUsed t ≤ profileRegion .size) {a b d : ℕ} (taps : a ≡ counted tapsIn (usedIn t .profiles))
+    (names : b ≡ counted namesIn (usedIn t .profiles)) (extras : d ≡ counted extrasIn (usedIn t .profiles)) where
+  abbrev taps-check : Check
+  taps-check = table-check 41 36 a (tapsUsed t)
+
+  abbrev names-check : Check
+  names-check = table-check 42 32 b (namesUsed t)
+
+  abbrev extras-check : Check
+  extras-check = table-check 43 32 d (extrasUsed t)
+
+  table-by-table : both taps-check (both names-check extras-check) ≡ countsCheck (tablesFrom t)
+  unfolding countsCheck tablesFrom
+  table-by-table =
+      (λ j. both (table-check 41 36 (taps j) (tapsUsed t)) (both (table-check 42 32 (names j) (namesUsed t)) (table-check 43 32 (extras j) (extrasUsed t))))
+      ∙ sym (go (usedCheck 40 8 (profilesUsed t)) _ (le-test (profilesUsed t) 8 _ few))
+
+  pub stop-taps : {r : Refusal} → taps-check ≡ Refuse r → Refuse r ≡ countsCheck (tablesFrom t)
+  stop-taps e = sym (stop taps-check _ _ e) ∙ table-by-table
+
+  pub stop-names : {r : Refusal} → taps-check ≡ Pass → names-check ≡ Refuse r → Refuse r ≡ countsCheck (tablesFrom t)
+  stop-names p e = sym (go taps-check _ p ∙ stop names-check _ _ e) ∙ table-by-table
+
+  pub at-extras : taps-check ≡ Pass → names-check ≡ Pass → extras-check ≡ countsCheck (tablesFrom t)
+  at-extras p q = sym (go taps-check _ p ∙ go names-check _ q) ∙ table-by-table
 
 -- ---- what an answer says of its check
 

@@ -2,7 +2,7 @@
 // check for 2 that only writing makes. Only where some view lies outside the source are they looked at one by one, to tell the first.
 ghost use mathlib.Core.Path.{_≡_};
 ghost use Prim.Native.Nat.{_+_, _*_, _≤_, _<_, min};
-ghost use lib.ListN.{length};
+ghost use lib.ListN.{length, getD};
 ghost use Rattle.octets.specs.Octets.{part};
 ghost use Rattle.reference.specs.declared.Check.the-variants.{Pass};
 ghost use Rattle.reference.specs.Checks.{both, each};
@@ -81,10 +81,12 @@ fn then(first: Check, second: Check) -> Check
     }
 }
 
-// 8 for one table: its used count is within its size, and the sum of the profiles' counts.
-fn check_used(used: usize, size: usize, total: usize, place: u8) -> Check
-    ensures { λ r. ⌜ r ≡ both (usedCheck place size used) (sumCheck place total used) ⌝ }
+// 8 for one table: its used count, which stands at number k, is within its size, and the sum of the profiles' counts.
+fn check_used(t: &[u32], k: usize, size: usize, total: usize, place: u8) -> Check
+    requires { ⌜ k < length (now t) ⌝ }
+    ensures { λ r. ⌜ r ≡ both (usedCheck place size (getD (now (t .entry)) k 0)) (sumCheck place total (getD (now (t .entry)) k 0)) ⌝ }
 {
+    let used = number_at(t, k);
     if size < used {
         return Check::Refuse(wrong(8, place));
     }
@@ -101,10 +103,15 @@ fn check_counts(t: &[u32], s: Survey) -> Check
     if PROFILES < number_at(t, PROFILES_USED) {
         return Check::Refuse(wrong(8, PLACE_PROFILES));
     }
-    let taps = check_used(number_at(t, TAPS_USED), TAPS, s.taps, PLACE_TAPS);
-    let names = check_used(number_at(t, NAMES_USED), NAMES, s.names, PLACE_NAMES);
-    let extras = check_used(number_at(t, EXTRAS_USED), EXTRAS, s.extras, PLACE_EXTRAS);
-    then(taps, then(names, extras))
+    let taps = check_used(t, TAPS_USED, TAPS, s.taps, PLACE_TAPS);
+    if let Check::Refuse(r) = taps {
+        return Check::Refuse(r);
+    }
+    let names = check_used(t, NAMES_USED, NAMES, s.names, PLACE_NAMES);
+    if let Check::Refuse(r) = names {
+        return Check::Refuse(r);
+    }
+    check_used(t, EXTRAS_USED, EXTRAS, s.extras, PLACE_EXTRAS)
 }
 
 // 9: whether a view lies within a source of n octets; the sum is taken in 64 bits.

@@ -1,10 +1,9 @@
 -- `faults::check_counts` meets its contract. Table by table, after the profiles. Assumes nothing.
 use borrow.Author.Needs.{needs}
-use mathlib.Core.Path.{sym, ap, ap₂, _∙_}
+use mathlib.Core.Path.{sym, ap, _∙_}
 use native.Mathlib.Omega.{arith}
-use Rattle.reference.specs.Checks.{both}
 use Rattle.reference.specs.declared.Check.the-variants.{Refuse}
-use Rattle.faults.proofs.Order.{too-many-profiles, table-by-table}
+use Rattle.faults.proofs.Order.{too-many-profiles, stop-taps, stop-names, at-extras}
 use Rattle.faults.proofs.check_counts.Statement.{statement}
 use Rattle.faults.proofs.check_counts.Tie as tie
 
@@ -19,39 +18,50 @@ returns c =
     let a = c .before .before .before .before .args in
     ap Refuse (c .wrong .ensures) ∙ sym (too-many-profiles (a .t .now) (omega arith))
 
-number-at-requires-2 : tie.Need-number-at-requires-2
-number-at-requires-2 c κs = search needs
-
 check-used-requires : tie.Need-check-used-requires
 check-used-requires c κs = search needs
 
-number-at-requires-3 : tie.Need-number-at-requires-3
-number-at-requires-3 c κs = search needs
+enum-known-taps : tie.Need-enum-known-taps
+enum-known-taps c = search needs
+
+returns-2 : tie.Need-returns-2
+returns-2 c =
+    let k = c .before .before .before in
+    let s = k .before .before .before .before in
+    stop-taps (s .args .t .now) (omega arith) (s .pre .1) (s .pre .2) (s .pre .3) (sym (k .check-used .ensures) ∙ c .before .taps .given .1)
+
+enum-told : tie.Need-enum-told
+enum-told c = search needs
 
 check-used-requires-2 : tie.Need-check-used-requires-2
 check-used-requires-2 c κs = search needs
 
-number-at-requires-4 : tie.Need-number-at-requires-4
-number-at-requires-4 c κs = search needs
+enum-known-names : tie.Need-enum-known-names
+enum-known-names c = search needs
+
+returns-3 : tie.Need-returns-3
+returns-3 c =
+    let k = c .before .before .before in
+    let e = k .before in
+    let j = e .before .before in
+    let s = j .before .before .before .before in
+    stop-names (s .args .t .now) (omega arith) (s .pre .1) (s .pre .2) (s .pre .3) (sym (j .check-used .ensures) ∙ e .enum-told .given .1) (sym (k .check-used2 .ensures) ∙ c .before .names .given .1)
+
+enum-told-2 : tie.Need-enum-told-2
+enum-told-2 c = search needs
 
 check-used-requires-3 : tie.Need-check-used-requires-3
 check-used-requires-3 c κs = search needs
 
-then-requires : tie.Need-then-requires
-then-requires c κs = search needs
-
-then-requires-2 : tie.Need-then-requires-2
-then-requires-2 c κs = search needs
-
-returns-2 : tie.Need-returns-2
-returns-2 c =
-    let names = c .before .before .before .before in
-    let taps = names .before .before in
-    let few = taps .before .before in
-    let s = few .before .before .before in
-    let t = s .args .t .now in
-    let behind = c .before .then .ensures ∙ ap₂ both (names .check-used2 .ensures) (c .before .before .check-used3 .ensures) in
-    c .then2 .ensures ∙ ap₂ both (taps .check-used .ensures) behind ∙ table-by-table t (omega (arith, few .if1 .left, few .before .number-at .ensures .0)) (s .pre .1) (s .pre .2) (s .pre .3) (taps .before .number-at2 .ensures .0) (names .before .number-at3 .ensures .0) (c .before .before .before .number-at4 .ensures .0)
+returns-4 : tie.Need-returns-4
+returns-4 c =
+    let f = c .before in
+    let k = f .before .before in
+    let e = k .before in
+    let j = e .before .before in
+    let s = j .before .before .before .before in
+    c .check-used3 .ensures
+    ∙ at-extras (s .args .t .now) (omega arith) (s .pre .1) (s .pre .2) (s .pre .3) (sym (j .check-used .ensures) ∙ e .enum-told .given .1) (sym (k .check-used2 .ensures) ∙ f .enum-told2 .given .1)
 
 pub check-counts-spec : {M : Type 1} → statement M
 check-counts-spec =
@@ -60,12 +70,13 @@ check-counts-spec =
     number-at-requires
     wrong-requires
     returns
-    number-at-requires-2
     check-used-requires
-    number-at-requires-3
+    enum-known-taps
+    returns-2
+    enum-told
     check-used-requires-2
-    number-at-requires-4
+    enum-known-names
+    returns-3
+    enum-told-2
     check-used-requires-3
-    then-requires
-    then-requires-2
-    returns-2)
+    returns-4)
