@@ -10,13 +10,13 @@ use lib.ListN.{length}
 use Rattle.octets.specs.Octets.{be, part}
 use Rattle.octets.proofs.Part.{length-part}
 use Rattle.reference.specs.declared.Refusal.{Refusal}
+use Rattle.reference.specs.declared.View.{View}
 use Rattle.reference.specs.declared.Tap.{Tap as TapEntry}
 use Rattle.reference.specs.Refusals.{cutAt, longAt}
 use Rattle.reference.specs.Steps.{Answer, ok, refused, seen, need, number, run, done}
 use Rattle.reference.specs.Reader.{readTap}
 use Rattle.reference.specs.Placed.{tapAt}
 use Rattle.reference.specs.Places.{place-tap-fixed}
-use Rattle.read_biop.specs.Told.{TapIn}
 
 module _ (d : List ℕ) (base pos end : ℕ) where
   abbrev told : Answer TapEntry
@@ -31,9 +31,10 @@ module _ (d : List ℕ) (base pos end : ℕ) where
     unfolding readTap need number run
     tap-over e h = simp (e, add-assoc, ← size, le-ltb, lt-ltb)
 
-    pub tap-read : {t : TapEntry} → TapIn d base pos n t → n ≤ end - (pos + 7) → end ≤ length d → ok t (pos + 7 + n) ≡ told
+    pub tap-read : {i u a : ℕ} {v : View} → i ≡ be (part d pos 2) → u ≡ be (part d (pos + 2) 2) → a ≡ be (part d (pos + 4) 2) → v ≡ record { at = base + (pos + 7); len = n }
+        → n ≤ end - (pos + 7) → end ≤ length d → ok (record { id = i; «use_» = u; association = a; selector = v }) (pos + 7 + n) ≡ told
     unfolding readTap need number run done
-    tap-read i h m =
+    tap-read i u a v h m =
         let k : pos + 7 + n ≤ length d = omega arith in
         let next : pos + (7 + n) ≡ pos + (2 + (2 + (2 + (1 + n)))) = omega arith in
-        simp (length-part, add-assoc, ← size, le-ltb) (λ j. ok (record { id = i .id j; «use_» = i .uses j; association = i .association j; selector = i .selector j }) (next j))
+        simp (length-part, add-assoc, ← size, le-ltb) (λ j. ok (record { id = i j; «use_» = u j; association = a j; selector = v j }) (next j))

@@ -21,13 +21,6 @@ abbrev pub tapTold : TapRead → Answer TapEntry
 tapTold (Taps.Got t next) = ok t next
 tapTold (Taps.Not x) = refused x
 
--- the entry of the fields at pos, of which the selector has n octets
-pub record TapIn (d : List ℕ) (base pos n : ℕ) (t : TapEntry) : Type 0 where
-  pub id : t .id ≡ be (part d pos 2)
-  pub uses : t .«use_» ≡ be (part d (pos + 2) 2)
-  pub association : t .association ≡ be (part d (pos + 4) 2)
-  pub selector : t .selector ≡ record { at = base + (pos + 7); len = n }
-
 -- ---- the header at pos of a component: its data ends where it says
 
 abbrev pub partTold : ℕ → Ended → Answer ℕ

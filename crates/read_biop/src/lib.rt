@@ -11,7 +11,7 @@ ghost use Rattle.reference.specs.Heads.{readPart, readBiopRest};
 ghost use Rattle.reference.specs.Steps.{seen, ending};
 ghost use Rattle.reference.specs.Placed.{tapAt};
 ghost use Rattle.read_parts.specs.Told.{StoresTaps, StoresBody};
-ghost use Rattle.read_biop.specs.Told.{tapTold, TapIn, partTold, LocationIn, locationTold, headOf, readFromBinder};
+ghost use Rattle.read_biop.specs.Told.{tapTold, partTold, LocationIn, locationTold, headOf, readFromBinder};
 ghost use Rattle.table.specs.Flat.{Lent};
 use octets::be16;
 use octets::be32;
@@ -75,19 +75,6 @@ struct Head {
     extras: usize,
 }
 
-// The entry of the tap at `pos`, whose selector of `len` octets is there.
-fn tap_in(d: &[u8], base: usize, pos: usize, len: usize) -> Tap
-    requires { ⌜ (pos + 7 + len ≤ length (now d)) × (base + length (now d) ≤ 65535) ⌝ }
-    ensures { λ r. ⌜ TapIn (now (d .entry)) base pos len r ⌝ }
-{
-    Tap {
-        id: be16(d, pos),
-        use_: be16(d, pos + 2),
-        association: be16(d, pos + 4),
-        selector: view_of(base, pos + 7, len),
-    }
-}
-
 fn read_tap(d: &[u8], base: usize, pos: usize, end: usize) -> TapRead
     requires { ⌜ (pos ≤ end) × (end ≤ length (now d)) × (base + length (now d) ≤ 65535) ⌝ }
     ensures { λ r. ⌜ tapTold r ≡ seen (tapAt (base + pos)) (readTap (now (d .entry)) pos end) ⌝ }
@@ -104,8 +91,14 @@ fn read_tap(d: &[u8], base: usize, pos: usize, end: usize) -> TapRead
             why: too_long(data, len, end),
         };
     }
+    let tap = Tap {
+        id: be16(d, pos),
+        use_: be16(d, pos + 2),
+        association: be16(d, pos + 4),
+        selector: view_of(base, data, len),
+    };
     TapRead::Got {
-        tap: tap_in(d, base, pos, len),
+        tap,
         next: data + len,
     }
 }

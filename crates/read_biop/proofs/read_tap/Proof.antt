@@ -28,11 +28,26 @@ too-long-requires c κs = search needs
 returns-2 : tie.Need-returns-2
 returns-2 c = search tap-over
 
-tap-in-requires : tie.Need-tap-in-requires
-tap-in-requires c κs = search needs
+be16-requires : tie.Need-be16-requires
+be16-requires c κs = search needs
 
-add-t10 : tie.Need-add-t10
-add-t10 c = search needs
+add-be16 : tie.Need-add-be16
+add-be16 c = search needs
+
+be16-requires-2 : tie.Need-be16-requires-2
+be16-requires-2 c κs = search needs
+
+add-be16-2 : tie.Need-add-be16-2
+add-be16-2 c = search needs
+
+be16-requires-3 : tie.Need-be16-requires-3
+be16-requires-3 c κs = search needs
+
+view-of-requires : tie.Need-view-of-requires
+view-of-requires c κs = search needs
+
+add-t11 : tie.Need-add-t11
+add-t11 c = search needs
 
 returns-3 : tie.Need-returns-3
 returns-3 c = search tap-read
@@ -49,6 +64,11 @@ read-tap-spec =
     cast-len
     too-long-requires
     returns-2
-    tap-in-requires
-    add-t10
+    be16-requires
+    add-be16
+    be16-requires-2
+    add-be16-2
+    be16-requires-3
+    view-of-requires
+    add-t11
     returns-3)
