@@ -168,7 +168,7 @@ fn tap_adds(id: u32, uses: u32, association: u32, at: u32, len: u32, n: usize) -
         names: 0,
         extras: 0,
         octets: TAP_FIXED + len as usize,
-        fields: id as usize | uses as usize | association as usize,
+        fields: (id | uses | association) as usize,
         ends: at as usize + len as usize + (MOST - n),
     }
 }
