@@ -3,7 +3,7 @@ use Prim.Native.Nat.{ℕ, zero, suc, _+_, _*_, zero-le, min}
 use mathlib.Core.Path.{_≡_, refl, sym, ap, ap₂, _∙_}
 use mathlib.Core.Bool.{Bool, _&&_, and-true, and-assoc}
 use mathlib.Core.List.{List, _∷_}
-use native.Mathlib.Nat.{suc-min-suc, min-eq-left, min-eq-right}
+use native.Mathlib.Nat.{suc-min-suc, min-eq-left, min-eq-right, mul-zero, mul-suc}
 use native.Mathlib.Omega.{arith}
 use lib.ListN.{take}
 use Rattle.reference.specs.declared.Check.{Check}
@@ -46,6 +46,15 @@ module _ {E : Type 0} where
   unfolding listed
   sum-next g e zero = omega arith
   sum-next g e (suc n) = omega (arith, sum-next g (λ i. e (suc i)) n)
+
+  -- k for each entry, apart
+  pub sum-fixed : (k : ℕ) (g : E → ℕ) (e : ℕ → E) (n : ℕ) → sum (λ x. k + g x) (listed n e) ≡ k * n + sum g (listed n e)
+  unfolding listed
+  sum-fixed k g e zero = omega (arith, mul-zero k)
+  sum-fixed k g e (suc n) = omega (arith, mul-suc k n, sum-next (λ x. k + g x) e n, sum-next g e n, sum-fixed k g e n)
+
+  pub sum-alike : (g h : E → ℕ) (e : ℕ → E) → ((x : E) → g x ≡ h x) → (n : ℕ) → sum g (listed n e) ≡ sum h (listed n e)
+  sum-alike g h e same n = ap (λ (f : E → ℕ). sum f (listed n e)) (λ j x. same x j)
 
   each-next : (c : E → Check) (e : ℕ → E) (n : ℕ) → both (each c (listed n e)) (c (e n)) ≡ each c (listed (suc n) e)
   unfolding listed each both

@@ -21,9 +21,9 @@ use Rattle.table.specs.Region.{entry, listed}
 use Rattle.survey.specs.declared.Survey.{Survey}
 use Rattle.survey.specs.Exact.{locationExact, addressExact, profileExact, profilesExact, tapExact, tapsExact, exact}
 use Rattle.survey.specs.ByTable.{bodyOctets, entrySize, usedIn}
-use Rattle.survey.specs.Seen.{holds, passing, biopSeen, liteSeen, opaqueSeen, profileSeen, tapSeen, viewSeen, added, allSeen, tableSeen, nameView, extraView, Surveyed}
+use Rattle.survey.specs.Seen.{holds, passing, biopSeen, liteSeen, opaqueSeen, profileSeen, tapSeen, viewSeen, added, allSeen, fixedOctets, tableSeen, nameView, extraView, Surveyed}
 use Rattle.survey.proofs.Marks.{or-more, end-holds, location-holds, address-holds, tap-holds, sort-holds}
-use Rattle.survey.proofs.Rows.{take-listed, sum-pairs, each-pairs, sum-seen, kept, fields-seen, ends-seen, both-more}
+use Rattle.survey.proofs.Rows.{take-listed, sum-pairs, sum-fixed, sum-alike, each-pairs, sum-seen, kept, fields-seen, ends-seen, both-more}
 
 -- ---- the used entries, and where their views stand
 
@@ -65,10 +65,15 @@ module _ (t : List ℕ) where
   pub names-views : (n k : ℕ) → each (viewCheck n 42) (listed (2 * k) nameViewsOf) ≡ each (nameViews n) (listed k (nameOfTable t))
   names-views n k = each-pairs nameViewsOf (nameOfTable t) (viewCheck n 42) (nameViews n) (λ i. ap₂ (λ (v w : View). both (viewCheck n 42 v) (viewCheck n 42 w)) (id-view i) (kind-view i)) k
 
-  names-octets : (k : ℕ) → sum (λ v. 4 + v .len) (listed (2 * k) nameViewsOf) ≡ sum nameSize (listed k (nameOfTable t))
+  names-octets : (k : ℕ) → 8 * k + sum (λ v. v .len) (listed (2 * k) nameViewsOf) ≡ sum nameSize (listed k (nameOfTable t))
   names-octets k =
-      sum-pairs nameViewsOf (nameOfTable t) (λ v. 4 + v .len) nameSize
-      (λ i. omega (arith, ap (λ (v : View). v .len) (id-view i), ap (λ (v : View). v .len) (kind-view i))) k
+      omega (
+        arith,
+        sum-pairs nameViewsOf (nameOfTable t) (λ v. v .len) (λ x. x .id .len + x .kind .len)
+            (λ i. omega (arith, ap (λ (v : View). v .len) (id-view i), ap (λ (v : View). v .len) (kind-view i))) k,
+        sum-fixed 8 (λ x. x .id .len + x .kind .len) (nameOfTable t) k,
+        sum-alike nameSize (λ x. 8 + (x .id .len + x .kind .len)) (nameOfTable t) (λ x. omega arith) k,
+      )
 
 -- what is seen of the used entries
 abbrev pub wholeSeen : ℕ → List ℕ → Survey
@@ -119,14 +124,14 @@ module _ (n : ℕ) (few : n ≤ 65535) where
     tap i = tapSeen n t (entry tapRegion i)
 
     abbrev nameHalf : ℕ → Survey
-    nameHalf i = viewSeen 4 n t (nameView + 2 * i)
+    nameHalf i = viewSeen 0 n t (nameView + 2 * i)
 
     abbrev extra : ℕ → Survey
-    extra i = viewSeen 5 n t (extraView + extraRegion .width * i)
+    extra i = viewSeen 0 n t (extraView + extraRegion .width * i)
 
     module _ (np nt nn ne : ℕ) where
       abbrev profiled : Survey
-      profiled = allSeen profile np (viewSeen 8 n t 0)
+      profiled = allSeen profile np (viewSeen (fixedOctets nt nn ne) n t 0)
 
       abbrev tapped : Survey
       tapped = allSeen tap nt profiled
@@ -140,11 +145,11 @@ module _ (n : ℕ) (few : n ≤ 65535) where
       counts p g plus view tapless same =
           omega (
             arith,
-            kept extra p (λ a i. omega (arith, plus a (extra i), view 5 (extraView + extraRegion .width * i))) ne named,
-            kept nameHalf p (λ a i. omega (arith, plus a (nameHalf i), view 4 (nameView + 2 * i))) (2 * nn) tapped,
+            kept extra p (λ a i. omega (arith, plus a (extra i), view 0 (extraView + extraRegion .width * i))) ne named,
+            kept nameHalf p (λ a i. omega (arith, plus a (nameHalf i), view 0 (nameView + 2 * i))) (2 * nn) tapped,
             kept tap p (λ a i. omega (arith, plus a (tap i), tapless (entry tapRegion i))) nt profiled,
-            sum-seen profile p plus (λ q. g (q .body)) (profileOfTable t) (λ i. same (entry profileRegion i)) np (viewSeen 8 n t 0),
-            view 8 0,
+            sum-seen profile p plus (λ q. g (q .body)) (profileOfTable t) (λ i. same (entry profileRegion i)) np (viewSeen (fixedOctets nt nn ne) n t 0),
+            view (fixedOctets nt nn ne) 0,
           )
 
       pub seen-octets : tableSeen n t np nt nn ne .octets
@@ -152,11 +157,13 @@ module _ (n : ℕ) (few : n ≤ 65535) where
       seen-octets =
           omega (
             arith,
-            sum-seen extra (λ s. s .octets) (λ a b. refl) extraSize (extraOfTable t) (λ i. ap (λ (v : View). 5 + v .len) (extra-view t i)) ne named,
-            sum-seen nameHalf (λ s. s .octets) (λ a b. refl) (λ v. 4 + v .len) (nameViewsOf t) (λ i. refl) (2 * nn) tapped,
+            sum-seen extra (λ s. s .octets) (λ a b. refl) (λ x. x .«data» .len) (extraOfTable t) (λ i. omega (arith, ap (λ (v : View). v .len) (extra-view t i))) ne named,
+            sum-fixed 5 (λ x. x .«data» .len) (extraOfTable t) ne,
+            sum-seen nameHalf (λ s. s .octets) (λ a b. refl) (λ v. v .len) (nameViewsOf t) (λ i. omega arith) (2 * nn) tapped,
             names-octets t nn,
-            sum-seen tap (λ s. s .octets) (λ a b. refl) tapSize (tapOfTable t) (λ i. refl) nt profiled,
-            sum-seen profile (λ s. s .octets) (λ a b. refl) entrySize (profileOfTable t) (λ i. by-sort (entry profileRegion i) (λ s. s .octets) bodyOctets refl refl refl) np (viewSeen 8 n t 0),
+            sum-seen tap (λ s. s .octets) (λ a b. refl) (λ x. x .selector .len) (tapOfTable t) (λ i. refl) nt profiled,
+            sum-fixed 7 (λ x. x .selector .len) (tapOfTable t) nt,
+            sum-seen profile (λ s. s .octets) (λ a b. refl) entrySize (profileOfTable t) (λ i. by-sort (entry profileRegion i) (λ s. s .octets) bodyOctets refl refl refl) np (viewSeen (fixedOctets nt nn ne) n t 0),
           )
 
       pub seen-fields : holds (tableSeen n t np nt nn ne .fields) ≡ (profilesExact t np && tapsExact t nt)
@@ -164,7 +171,7 @@ module _ (n : ℕ) (few : n ≤ 65535) where
           kept extra (λ s. holds (s .fields)) (λ a i. or-more (a .fields) 0 refl refl ∙ and-true _) ne named
           ∙ kept nameHalf (λ s. holds (s .fields)) (λ a i. or-more (a .fields) 0 refl refl ∙ and-true _) (2 * nn) tapped
           ∙ fields-seen tap (λ i. tapExact t (entry tapRegion i)) (λ i. tap-fields (entry tapRegion i)) nt profiled
-          ∙ ap (λ (b : Bool). b && tapsExact t nt) (fields-seen profile (λ i. profileExact t (entry profileRegion i)) (λ i. profile-fields (entry profileRegion i)) np (viewSeen 8 n t 0))
+          ∙ ap (λ (b : Bool). b && tapsExact t nt) (fields-seen profile (λ i. profileExact t (entry profileRegion i)) (λ i. profile-fields (entry profileRegion i)) np (viewSeen (fixedOctets nt nn ne) n t 0))
 
       pub seen-ends : holds (tableSeen n t np nt nn ne .ends)
           ≡ passing (both (viewCheck n 0 (viewFrom t 0))

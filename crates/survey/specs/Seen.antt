@@ -33,7 +33,7 @@ viewAdds fixed at len n = record { taps = 0; names = 0; extras = 0; octets = fix
 
 abbrev pub tapAdds : (id uses association at len n : ℕ) → Survey
 tapAdds id uses association at len n =
-    record { taps = 0; names = 0; extras = 0; octets = 7 + len; fields = bitOr (bitOr id uses) association; ends = at + len + (65535 - n) }
+    record { taps = 0; names = 0; extras = 0; octets = len; fields = bitOr (bitOr id uses) association; ends = at + len + (65535 - n) }
 
 abbrev pub opaqueAdds : (sort at len n : ℕ) → Survey
 opaqueAdds sort at len n = record { taps = 0; names = 0; extras = 0; octets = 8 + len; fields = sort * 65536; ends = at + len + (65535 - n) }
@@ -108,12 +108,16 @@ unfoldable pub allSeen : (ℕ → Survey) → ℕ → Survey → Survey
 allSeen f zero s = s
 allSeen f (suc n) s = added (allSeen f n s) (f n)
 
--- so many entries of each table, behind the front; a name has two views, one behind the other
+-- the octets of the fixed fields of the front, of so many taps, names and extras
+abbrev pub fixedOctets : (taps names extras : ℕ) → ℕ
+fixedOctets taps names extras = 8 + 7 * taps + 8 * names + 5 * extras
+
+-- so many entries of each table, behind the front and all fixed fields; a name has two views, one behind the other
 abbrev pub tableSeen : ℕ → List ℕ → (profiles taps names extras : ℕ) → Survey
 tableSeen n t profiles taps names extras =
-    allSeen (λ i. viewSeen 5 n t (extraView + extraRegion .width * i)) extras
-    (allSeen (λ i. viewSeen 4 n t (nameView + 2 * i)) (2 * names)
-    (allSeen (λ i. tapSeen n t (entry tapRegion i)) taps (allSeen (λ i. profileSeen n t (entry profileRegion i)) profiles (viewSeen 8 n t 0))))
+    allSeen (λ i. viewSeen 0 n t (extraView + extraRegion .width * i)) extras
+    (allSeen (λ i. viewSeen 0 n t (nameView + 2 * i)) (2 * names)
+    (allSeen (λ i. tapSeen n t (entry tapRegion i)) taps (allSeen (λ i. profileSeen n t (entry profileRegion i)) profiles (viewSeen (fixedOctets taps names extras) n t 0))))
 
 -- at most k entries, and at most k more than a: no sum comes near 2^64
 abbrev pub Bounded : ℕ → Survey → Type 0

@@ -33,13 +33,13 @@ use table::number_at;
 // Every mark below it holds.
 pub const BOUND: usize = 65536;
 
-// The octets of an entry's fixed fields. Front: the type id's length and the profile count; tap: id, use, association, selector length; each view of a
-// name: its length; extra: tag and length.
+// The octets of an entry's fixed fields. Front: the type id's length and the profile count; tap: id, use, association, selector length; name: both
+// lengths; extra: tag and length.
 const FRONT_FIXED: usize = 8;
 
 pub const TAP_FIXED: usize = 7;
 
-const NAME_VIEW_FIXED: usize = 4;
+const NAME_FIXED: usize = 8;
 
 const EXTRA_FIXED: usize = 5;
 
@@ -167,14 +167,14 @@ fn tap_adds(id: u32, uses: u32, association: u32, at: u32, len: u32, n: usize) -
         taps: 0,
         names: 0,
         extras: 0,
-        octets: TAP_FIXED + len as usize,
-        fields: (id | uses | association) as usize,
+        octets: len as usize,
+        fields: id as usize | uses as usize | association as usize,
         ends: at as usize + len as usize + (MOST - n),
     }
 }
 
 fn view_adds(fixed: usize, at: u32, len: u32, n: usize) -> Survey
-    requires { ⌜ (n ≤ 65535) × (fixed ≤ 8) ⌝ }
+    requires { ⌜ (n ≤ 65535) × (fixed ≤ 1000) ⌝ }
     ensures { λ r. ⌜ (r ≡ viewAdds fixed at len n) × Bounded 1 r ⌝ }
 {
     Survey {
@@ -236,7 +236,7 @@ fn tap_seen(t: &[u32], at: usize, n: usize) -> Survey
 }
 
 fn view_seen(t: &[u32], fixed: usize, at: usize, n: usize) -> Survey
-    requires { ⌜ (at + 2 ≤ length (now t)) × (n ≤ 65535) × (fixed ≤ 8) ⌝ }
+    requires { ⌜ (at + 2 ≤ length (now t)) × (n ≤ 65535) × (fixed ≤ 1000) ⌝ }
     ensures { λ r. ⌜ (r ≡ viewSeen fixed n (now (t .entry)) at) × Bounded 1 r ⌝ }
 {
     view_adds(fixed, t[at], t[at + 1], n)
@@ -295,7 +295,7 @@ fn see_views(
     n: usize,
     before: Survey,
 ) -> Survey
-    requires { ⌜ Lent (now t) × (n ≤ 65535) × (fixed ≤ 8) × (count ≤ 64) × (first + width * count + 2 ≤ tableSize + width) × Bounded 500 before ⌝ }
+    requires { ⌜ Lent (now t) × (n ≤ 65535) × (fixed ≤ 1000) × (count ≤ 64) × (first + width * count + 2 ≤ tableSize + width) × Bounded 500 before ⌝ }
     ensures { λ r. ⌜ (r ≡ allSeen (λ i. viewSeen fixed n (now (t .entry)) (first + width * i)) count before) × Grown 64 before r ⌝ }
 {
     let mut all = before;
@@ -320,19 +320,12 @@ fn look_over(
     requires { ⌜ Lent (now t) × (profiles ≤ profileRegion .size) × (taps ≤ tapRegion .size) × (names ≤ nameRegion .size) × (extras ≤ extraRegion .size) × (n ≤ 65535) ⌝ }
     ensures { λ r. ⌜ r ≡ tableSeen n (now (t .entry)) profiles taps names extras ⌝ }
 {
-    let a = view_seen(t, FRONT_FIXED, TYPE_ID, n);
+    let fixed = FRONT_FIXED + TAP_FIXED * taps + NAME_FIXED * names + EXTRA_FIXED * extras;
+    let a = view_seen(t, fixed, TYPE_ID, n);
     let b = see_profiles(t, profiles, n, a);
     let c = see_taps(t, taps, n, b);
-    let d = see_views(
-        t,
-        NAME_VIEWS_AT,
-        VIEW_WIDTH,
-        2 * names,
-        NAME_VIEW_FIXED,
-        n,
-        c,
-    );
-    see_views(t, EXTRA_VIEWS_AT, EXTRA_WIDTH, extras, EXTRA_FIXED, n, d)
+    let d = see_views(t, NAME_VIEWS_AT, VIEW_WIDTH, 2 * names, 0, n, c);
+    see_views(t, EXTRA_VIEWS_AT, EXTRA_WIDTH, extras, 0, n, d)
 }
 
 // The whole table over a source of n octets, of which no more than 65535 count.

@@ -3,6 +3,24 @@ use borrow.Author.Needs.{needs}
 use Rattle.survey.proofs.look_over.Statement.{statement}
 use Rattle.survey.proofs.look_over.Tie as tie
 
+mul-fixed : tie.Need-mul-fixed
+mul-fixed c = search needs
+
+add-fixed : tie.Need-add-fixed
+add-fixed c = search needs
+
+mul-fixed-2 : tie.Need-mul-fixed-2
+mul-fixed-2 c = search needs
+
+add-fixed-2 : tie.Need-add-fixed-2
+add-fixed-2 c = search needs
+
+mul-fixed-3 : tie.Need-mul-fixed-3
+mul-fixed-3 c = search needs
+
+add-fixed-3 : tie.Need-add-fixed-3
+add-fixed-3 c = search needs
+
 view-seen-requires : tie.Need-view-seen-requires
 view-seen-requires c κs = search needs
 
@@ -28,6 +46,12 @@ pub look-over-spec : {M : Type 1} → statement M
 look-over-spec =
     tie.close
     (tie.spec
+    mul-fixed
+    add-fixed
+    mul-fixed-2
+    add-fixed-2
+    mul-fixed-3
+    add-fixed-3
     view-seen-requires
     see-profiles-requires
     see-taps-requires
