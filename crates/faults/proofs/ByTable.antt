@@ -1,7 +1,8 @@
 -- The image's length is the same summed by table as summed by profile, where the used counts agree. Assumes nothing.
-use Prim.Native.Nat.{ℕ, zero, suc, _+_}
+use Prim.Native.Nat.{ℕ, zero, suc, _+_, _≤_, min}
 use mathlib.Core.Path.{_≡_, refl, sym, ap, _∙_}
 use mathlib.Core.List.{List, [], _∷_}
+use native.Mathlib.Nat.{min-eq-left}
 use native.Mathlib.Omega.{arith}
 use lib.ListN.{length, take, drop, length-drop}
 use Rattle.reference.specs.declared.Tap.{Tap}
@@ -14,8 +15,10 @@ use Rattle.reference.specs.declared.View.{View}
 use Rattle.reference.specs.declared.Check.the-variants.{Pass}
 use Rattle.reference.specs.Used.{tapsIn, namesIn, extrasIn, owned, bodyView}
 use Rattle.reference.specs.Meaning.{sum}
-use Rattle.reference.specs.Writer.{tapSize, nameSize, extraSize, bodySize, ownSize, sizeOf, counted, countsCheck, viewCheck, bodyViews}
+use Rattle.reference.specs.Writer.{tapSize, nameSize, extraSize, bodySize, ownSize, sizeOf, counted, countsCheck, viewCheck, viewsCheck, bodyViews}
 use Rattle.table.specs.Flat.{tablesFrom}
+use Rattle.survey.specs.declared.Survey.{Survey}
+use Rattle.survey.specs.Seen.{holds, passing, Surveyed}
 use Rattle.survey.specs.ByTable.{fixedSize, entrySize, usedIn, octetsIn}
 use Rattle.faults.proofs.Tables.{agreeing, taps-listed, names-listed, extras-listed}
 
@@ -57,6 +60,13 @@ sizes-by-table t h =
     (g .tapsSum ∙ sym (taps-listed t (g .taps) .size)) (g .namesSum ∙ sym (names-listed t (g .names) .size))
     (g .extrasSum ∙ sym (extras-listed t (g .extras) .size)) in
     omega (arith, o)
+
+-- what a survey of the table over n octets says, where they are no more than 65535 and the counts agree
+pub ends-told : {n : ℕ} {t : List ℕ} {s : Survey} → Surveyed (min n 65535) t s → n ≤ 65535 → holds (s .ends) ≡ passing (viewsCheck n (usedIn t))
+ends-told {t = t} k h = k .ends ∙ ap (λ (m : ℕ). passing (viewsCheck m (usedIn t))) (min-eq-left h)
+
+pub octets-told : {m : ℕ} {t : List ℕ} {s : Survey} → Surveyed m t s → countsCheck (tablesFrom t) ≡ Pass → s .octets ≡ sizeOf (usedIn t)
+octets-told {t = t} k h = k .octets ∙ sizes-by-table t h
 
 -- a profile's view is its key, its context or its data
 pub body-views : (n : ℕ) (b : TaggedProfile) {v : View} → v ≡ bodyView b → viewCheck n 40 v ≡ bodyViews n b

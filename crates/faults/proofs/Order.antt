@@ -1,21 +1,35 @@
 -- The order of measuring's refusals: the source, the counts, the views, the image. Assumes nothing.
 use Prim.Native.Nat.{ℕ, _<_, _≤_}
 use mathlib.Core.Path.{_≡_, refl, sym, ap, _∙_}
+use mathlib.Core.Bool.{Bool, true, false}
 use mathlib.Core.List.{List}
 use native.Mathlib.Omega.{arith}
+use lib.Dec.{leb}
+use borrow.Author.Tests.{leb-false}
 use Rattle.reference.specs.declared.Refusal.{Refusal}
 use Rattle.reference.specs.declared.Tables.{Tables}
 use Rattle.reference.specs.declared.Check.{Check}
 use Rattle.reference.specs.declared.Check.the-variants.{Pass, Refuse}
-use Rattle.reference.specs.declared.Answer.the-variants.{Count, Refused}
 use Rattle.reference.specs.Refusals.{refusal}
 use Rattle.reference.specs.Tabled.{usedOf}
 use Rattle.reference.specs.Used.{tapsIn, namesIn, extrasIn}
-use Rattle.reference.specs.Checks.{both}
-use Rattle.reference.specs.Writer.{sizeOf, sourceCheck, usedCheck, sumCheck, counted, countsCheck, viewsCheck, imageCheck, measureCheck, told}
-use Rattle.reference.proofs.Checks.{stop, go, le-test, lt-test}
+use Rattle.reference.specs.Checks.{both, test}
+use Rattle.reference.specs.Writer.{sizeOf, sourceCheck, usedCheck, sumCheck, counted, countsCheck, viewsCheck, imageCheck, measureCheck}
+use Rattle.reference.proofs.Checks.{stop, go, passes, le-test, lt-test}
 use Rattle.table.specs.Flat.{tablesFrom, profileRegion, profilesUsed, tapsUsed, namesUsed, extrasUsed}
 use Rattle.survey.specs.ByTable.{usedIn}
+use Rattle.survey.specs.Seen.{passing}
+
+-- ---- a check as a truth value
+
+pub passed-pass : (c : Check) → passing c ≡ true → c ≡ Pass
+passed-pass Pass e = refl
+passed-pass (Refuse r) e = let z : _≡_ {A = ℕ} 0 1 = cc in absurd (omega arith)
+
+stopped : (a b : Check) → passing a ≡ false → passing (both a b) ≡ false
+unfolding both
+stopped Pass b e = let z : _≡_ {A = ℕ} 0 1 = cc in absurd (omega arith)
+stopped (Refuse r) b e = refl
 
 -- ---- 8, over a lent table
 
@@ -53,47 +67,47 @@ module _ (t : List ℕ) (few : profilesUsed t ≤ profileRegion .size) {a b d : 
   pub at-extras : taps-check ≡ Pass → names-check ≡ Pass → extras-check ≡ countsCheck (tablesFrom t)
   at-extras p q = sym (go taps-check _ p ∙ go names-check _ q) ∙ table-by-table
 
--- ---- what an answer says of its check
-
-pub told-pass : (c : Check) (m : ℕ) {n : ℕ} → Count n ≡ told c m → (c ≡ Pass) × (n ≡ m)
-told-pass Pass m e = (refl, cc)
-told-pass (Refuse r) m e = let z : _≡_ {A = ℕ} 0 1 = cc in absurd (omega arith)
-
-pub told-refuse : (c : Check) (m : ℕ) {r : Refusal} → Refused r ≡ told c m → c ≡ Refuse r
-told-refuse Pass m e = let z : _≡_ {A = ℕ} 0 1 = cc in absurd (omega arith)
-told-refuse (Refuse q) m e = cc
-
 -- ---- 6, 8, 9, 10
 
 module _ (t : Tables) (n : ℕ) where
-  refuses : {r : Refusal} → measureCheck t n ≡ Refuse r → Refused r ≡ told (measureCheck t n) (sizeOf (usedOf t))
-  refuses e = ap (λ (c : Check). told c (sizeOf (usedOf t))) (sym e)
-
-  pub stop-source : 65535 < n → Refused (refusal 6 0 n 65535) ≡ told (measureCheck t n) (sizeOf (usedOf t))
+  pub stop-source : 65535 < n → measureCheck t n ≡ Refuse (refusal 6 0 n 65535)
   unfolding measureCheck
-  stop-source h = refuses (stop (sourceCheck n) _ _ (lt-test n 65535 _ h))
+  stop-source h = stop (sourceCheck n) _ _ (lt-test n 65535 _ h)
 
   module _ (source : n ≤ 65535) where
     beyond-source : measureCheck t n ≡ both (countsCheck t) (both (viewsCheck n (usedOf t)) (imageCheck (sizeOf (usedOf t))))
     unfolding measureCheck
     beyond-source = go (sourceCheck n) _ (le-test n 65535 _ source)
 
-    pub stop-counts : {r : Refusal} → countsCheck t ≡ Refuse r → Refused r ≡ told (measureCheck t n) (sizeOf (usedOf t))
-    stop-counts e = refuses (beyond-source ∙ stop (countsCheck t) _ _ e)
+    pub stop-counts : {r : Refusal} → countsCheck t ≡ Refuse r → measureCheck t n ≡ Refuse r
+    stop-counts e = beyond-source ∙ stop (countsCheck t) _ _ e
 
     module _ (counts : countsCheck t ≡ Pass) where
       beyond-counts : measureCheck t n ≡ both (viewsCheck n (usedOf t)) (imageCheck (sizeOf (usedOf t)))
       beyond-counts = beyond-source ∙ go (countsCheck t) _ counts
 
-      pub stop-views : {r : Refusal} → viewsCheck n (usedOf t) ≡ Refuse r → Refused r ≡ told (measureCheck t n) (sizeOf (usedOf t))
-      stop-views e = refuses (beyond-counts ∙ stop (viewsCheck n (usedOf t)) _ _ e)
+      pub stop-views : {r : Refusal} → viewsCheck n (usedOf t) ≡ Refuse r → measureCheck t n ≡ Refuse r
+      stop-views e = beyond-counts ∙ stop (viewsCheck n (usedOf t)) _ _ e
 
-      module _ (views : viewsCheck n (usedOf t) ≡ Pass) {total : ℕ} (size : total ≡ sizeOf (usedOf t)) where
-        beyond-views : measureCheck t n ≡ imageCheck (sizeOf (usedOf t))
-        beyond-views = beyond-counts ∙ go (viewsCheck n (usedOf t)) _ views
+      pub views-fail : passing (viewsCheck n (usedOf t)) ≡ false → passing (measureCheck t n) ≡ false
+      views-fail e = ap passing beyond-counts ∙ stopped (viewsCheck n (usedOf t)) _ e
 
-        pub stop-image : 65535 < total → Refused (refusal 10 0 total 65535) ≡ told (measureCheck t n) (sizeOf (usedOf t))
-        stop-image h = ap (λ (m : ℕ). Refused (refusal 10 0 m 65535)) size ∙ refuses (beyond-views ∙ lt-test (sizeOf (usedOf t)) 65535 _ (omega (arith, size)))
+      pub at-image : viewsCheck n (usedOf t) ≡ Pass → measureCheck t n ≡ imageCheck (sizeOf (usedOf t))
+      at-image views = beyond-counts ∙ go (viewsCheck n (usedOf t)) _ views
 
-        pub all-pass : total ≤ 65535 → Count total ≡ told (measureCheck t n) (sizeOf (usedOf t))
-        all-pass h = ap Count size ∙ ap (λ (c : Check). told c (sizeOf (usedOf t))) (sym (beyond-views ∙ le-test (sizeOf (usedOf t)) 65535 _ (omega (arith, size))))
+-- a table that measuring passes: the counts agree
+pub counts-passed : (t : Tables) (n : ℕ) → measureCheck t n ≡ Pass → countsCheck t ≡ Pass
+unfolding measureCheck
+counts-passed t n e = passes _ _ (passes (sourceCheck n) _ e .1) .0
+
+-- 10, by its test
+pub image-passing : (size : ℕ) → leb size 65535 ≡ passing (imageCheck size)
+unfolding test
+image-passing size = by-test (leb size 65535)
+  where
+    by-test : (b : Bool) → b ≡ passing (test b (refusal 10 0 size 65535))
+    by-test true = refl
+    by-test false = refl
+
+pub image-refused : (size : ℕ) → passing (imageCheck size) ≡ false → imageCheck size ≡ Refuse (refusal 10 0 size 65535)
+image-refused size e = lt-test size 65535 _ (leb-false size 65535 (image-passing size ∙ e))

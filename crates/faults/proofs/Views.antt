@@ -19,11 +19,6 @@ unfolding listed each
 each-alike c d v e same zero = refl
 each-alike c d v e same (suc n) = ap₂ both (same 0) (each-alike c d (λ i. v (suc i)) (λ i. e (suc i)) (λ i. same (suc i)) n)
 
--- a check that passes
-pub passing-pass : (c : Check) → passing c ≡ true → Pass ≡ c
-passing-pass Pass e = refl
-passing-pass (Refuse r) e = let z : _≡_ {A = ℕ} 0 1 = cc in absurd (omega arith)
-
 module _ (n : ℕ) (t : List ℕ) where
   -- the views that stand at first, first + width, ..
   abbrev pub row : (place first width count : ℕ) → Check

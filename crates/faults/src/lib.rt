@@ -4,7 +4,8 @@ ghost use mathlib.Core.Path.{_≡_};
 ghost use Prim.Native.Nat.{_+_, _*_, _≤_, _<_, min};
 ghost use lib.ListN.{length, getD};
 ghost use Rattle.octets.specs.Octets.{part};
-ghost use Rattle.reference.specs.declared.Check.the-variants.{Pass};
+ghost use mathlib.Core.Bool.{false};
+ghost use Rattle.reference.specs.declared.Check.the-variants.{Pass, Refuse};
 ghost use Rattle.reference.specs.Checks.{both, each};
 ghost use Rattle.reference.specs.Meaning.{sum};
 ghost use Rattle.reference.specs.Tabled.{usedOf};
@@ -13,7 +14,7 @@ ghost use Rattle.reference.specs.Writer.{tapSize, sizeOf, told, measured, usedC
 ghost use Rattle.table.specs.Flat.{viewFrom, tablesFrom, profileOfTable, profileRegion, tapRegion, extraRegion, tableSize, Lent, tapsUsed, extrasUsed};
 ghost use Rattle.table.specs.Region.{listed};
 ghost use Rattle.survey.specs.ByTable.{usedIn};
-ghost use Rattle.survey.specs.Seen.{holds, passing, Surveyed};
+ghost use Rattle.survey.specs.Seen.{passing, Surveyed};
 ghost use Rattle.faults.specs.Short.{shortHere, Within};
 use reference::Answer;
 use reference::Check;
@@ -25,6 +26,7 @@ use reference::PLACE_NAMES;
 use reference::PLACE_PROFILES;
 use reference::PLACE_TAPS;
 use reference::PROFILES;
+use reference::Refusal;
 use reference::TAPS;
 use reference::Tap;
 use reference::View;
@@ -189,15 +191,41 @@ fn check_views(t: &[u32], n: usize) -> Check
     then(type_id, then(profiles, then(taps, then(names, extras))))
 }
 
-// 9, where the mark of all ends is known.
-fn check_ends(t: &[u32], n: usize, ends: usize) -> Check
-    requires { ⌜ Lent (now t) × (holds ends ≡ passing (viewsCheck n (usedIn (now t)))) ⌝ }
-    ensures { λ r. ⌜ r ≡ viewsCheck n (usedIn (now (t .entry))) ⌝ }
+// Whether measuring passes, by a survey of the table over a source of n octets.
+pub fn is_sound(s: Survey, t: &[u32], n: usize) -> bool
+    requires { ⌜ Lent (now t) × Surveyed (min n 65535) (now t) s ⌝ }
+    ensures { λ r. ⌜ r ≡ passing (measureCheck (tablesFrom (now (t .entry))) n) ⌝ }
 {
-    if ends < BOUND {
-        return Check::Pass;
+    if MOST < n {
+        return false;
     }
-    check_views(t, n)
+    let counts = check_counts(t, s);
+    if let Check::Refuse(_) = counts {
+        return false;
+    }
+    if BOUND <= s.ends {
+        return false;
+    }
+    s.octets <= MOST
+}
+
+// What measuring refuses with, where it does not pass: 6, 8, 9 or 10.
+pub fn refusal_of(s: Survey, t: &[u32], n: usize) -> Refusal
+    requires { ⌜ Lent (now t) × Surveyed (min n 65535) (now t) s × (passing (measureCheck (tablesFrom (now t)) n) ≡ false) ⌝ }
+    ensures { λ r. ⌜ measureCheck (tablesFrom (now (t .entry))) n ≡ Refuse r ⌝ }
+{
+    if MOST < n {
+        return too_large(6, n);
+    }
+    let counts = check_counts(t, s);
+    if let Check::Refuse(r) = counts {
+        return r;
+    }
+    let views = check_views(t, n);
+    if let Check::Refuse(r) = views {
+        return r;
+    }
+    too_large(10, s.octets)
 }
 
 // The image's length over a source of n octets, by a survey of the table; or 6, 8, 9 or 10.
@@ -205,21 +233,10 @@ pub fn length_by(s: Survey, t: &[u32], n: usize) -> Answer
     requires { ⌜ Lent (now t) × Surveyed (min n 65535) (now t) s ⌝ }
     ensures { λ r. ⌜ r ≡ told (measureCheck (tablesFrom (now (t .entry))) n) (sizeOf (usedOf (tablesFrom (now (t .entry))))) ⌝ }
 {
-    if MOST < n {
-        return Answer::Refused(too_large(6, n));
+    if is_sound(s, t, n) {
+        return Answer::Count(s.octets);
     }
-    let counts = check_counts(t, s);
-    if let Check::Refuse(r) = counts {
-        return Answer::Refused(r);
-    }
-    let views = check_ends(t, n, s.ends);
-    if let Check::Refuse(r) = views {
-        return Answer::Refused(r);
-    }
-    if MOST < s.octets {
-        return Answer::Refused(too_large(10, s.octets));
-    }
-    Answer::Count(s.octets)
+    Answer::Refused(refusal_of(s, t, n))
 }
 
 // The image's length over src.

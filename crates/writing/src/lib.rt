@@ -18,8 +18,9 @@ ghost use Rattle.write_bodies.specs.Own.{OwnSound, PutAll, PutOwn};
 ghost use Rattle.writing.specs.Own.{countsIn, ownOn, afterOf, Placed};
 ghost use Rattle.writing.specs.Writes.{Writes};
 use faults::check_sizes;
-use faults::length_by;
+use faults::is_sound;
 use faults::length_from;
+use faults::refusal_of;
 use octets::put32;
 use reference::Answer;
 use reference::Check;
@@ -194,11 +195,10 @@ pub fn write_by(s: Survey, t: &[u32], src: &[u8], out: &mut [u8]) -> Answer
     requires { ⌜ Lent (now t) × Surveyed (min (length (now src)) 65535) (now t) s ⌝ }
     ensures { λ r. ⌜ Writes (tablesFrom (now (t .entry))) (now (src .entry)) (now (out .entry)) r (now (out .exit)) ⌝ }
 {
-    let length = length_by(s, t, src.len());
-    match length {
-        Answer::Refused(r) => Answer::Refused(r),
-        Answer::Count(total) => write_measured(t, src, out, total),
+    if is_sound(s, t, src.len()) {
+        return write_measured(t, src, out, s.octets);
     }
+    Answer::Refused(refusal_of(s, t, src.len()))
 }
 
 pub fn write_from(t: &[u32], src: &[u8], out: &mut [u8]) -> Answer
