@@ -5,3 +5,4 @@ pub mod ByTable
 pub mod Order
 pub mod Short
 pub mod Views
+pub mod Judging

@@ -14,8 +14,10 @@ ghost use Rattle.reference.specs.Writer.{tapSize, sizeOf, told, measured, usedC
 ghost use Rattle.table.specs.Flat.{viewFrom, tablesFrom, profileOfTable, profileRegion, tapRegion, extraRegion, tableSize, Lent, tapsUsed, extrasUsed};
 ghost use Rattle.table.specs.Region.{listed};
 ghost use Rattle.survey.specs.ByTable.{usedIn};
+ghost use Rattle.survey.specs.Exact.{exact};
 ghost use Rattle.survey.specs.Seen.{passing, Surveyed};
 ghost use Rattle.faults.specs.Short.{shortHere, Within};
+ghost use Rattle.faults.specs.Judges.{Judges};
 use reference::Answer;
 use reference::Check;
 use reference::EXTRAS;
@@ -245,6 +247,37 @@ pub fn length_from(t: &[u32], src: &[u8]) -> Answer
     ensures { λ r. ⌜ r ≡ measured (tablesFrom (now (t .entry))) (now (src .entry)) ⌝ }
 {
     length_by(survey_of(t, src.len()), t, src.len())
+}
+
+// What one survey says of a lent table over a source: it is sound, that is exact and nothing that measuring refuses, and its image so long; or what was seen.
+pub enum Judged {
+    Sound(usize),
+    Unsound(Survey),
+}
+
+pub fn judge(t: &[u32], n: usize) -> Judged
+    requires { ⌜ Lent (now t) ⌝ }
+    ensures { λ r. ⌜ Judges (now (t .entry)) n r ⌝ }
+{
+    let s = survey_of(t, n);
+    // Both marks at once; `is_sound` looks at the ends again, which costs nothing.
+    if (s.fields | s.ends) < BOUND {
+        if is_sound(s, t, n) {
+            return Judged::Sound(s.octets);
+        }
+    }
+    Judged::Unsound(s)
+}
+
+// Whether every number of a used entry fits its field, and no sort is unknown.
+pub fn is_exact(t: &[u32]) -> bool
+    requires { ⌜ Lent (now t) ⌝ }
+    ensures { λ r. ⌜ r ≡ exact (now (t .entry)) ⌝ }
+{
+    match judge(t, 0) {
+        Judged::Sound(_) => true,
+        Judged::Unsound(s) => s.fields < BOUND,
+    }
 }
 
 // 2: whether a component's length fits one octet.
