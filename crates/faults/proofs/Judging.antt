@@ -16,7 +16,7 @@ use Rattle.reference.specs.declared.Tables.{Tables}
 use Rattle.reference.specs.Tabled.{usedOf}
 use Rattle.reference.specs.Writer.{sizeOf, told, sourceCheck, countsCheck, viewsCheck, measureCheck, measured}
 use Rattle.reference.proofs.Checks.{passes, test-le}
-use Rattle.table.specs.Flat.{tablesFrom}
+use Rattle.table.specs.Flat.{tablesFrom, Lent}
 use Rattle.survey.specs.declared.Survey.{Survey}
 use Rattle.survey.specs.ByTable.{usedIn}
 use Rattle.survey.specs.Exact.{exact}
@@ -89,9 +89,10 @@ module _ (t : List ℕ) (n : ℕ) {r : Judged} (j : Judges t n r) where
     pub cut : 65536 ≤ s .fields → exact t ≡ false
     cut h = sym (unsound-says .0 .fields) ∙ le-ltb _ _ h
 
-    -- all fields fit: the table is exact, and measuring refuses it
-    pub fits : s .fields < 65536 → exact t ≡ true
-    fits h = sym (unsound-says .0 .fields) ∙ lt-ltb _ _ h
+    -- all fields fit: the table is exact, and so measuring refuses it
+    module _ (h : s .fields < 65536) where
+      pub fits : exact t ≡ true
+      fits = sym (unsound-says .0 .fields) ∙ lt-ltb _ _ h
 
-    pub fits-refused : s .fields < 65536 → passing (measureCheck (tablesFrom t) n) ≡ false
-    fits-refused h = ap (λ (b : Bool). b && passing (measureCheck (tablesFrom t) n)) (sym (fits h)) ∙ unsound-says .1
+      pub may-refuse : Lent t → (Lent t) × (Surveyed (min n 65535) t s) × (passing (measureCheck (tablesFrom t) n) ≡ false)
+      may-refuse l = (l, unsound-says .0, ap (λ (b : Bool). b && passing (measureCheck (tablesFrom t) n)) (sym fits) ∙ unsound-says .1)

@@ -12,7 +12,9 @@ ghost use Rattle.writing.specs.Writes.{Writes};
 ghost use Rattle.names.specs.Told.{shortTold};
 ghost use Rattle.names.specs.Writes as Short;
 ghost use Rattle.ior.specs.Lent.{measuredFrom, WritesFrom};
-use faults::length_by;
+use faults::Judged;
+use faults::judge;
+use faults::refusal_of;
 use names::ShortNameRead;
 use reference::Answer;
 use reference::FirstBiop;
@@ -23,9 +25,8 @@ use reference::Tables;
 use reference::TapNumbers;
 use reference::wrong;
 use survey::BOUND;
-use survey::survey_of;
 use table::SIZE;
-use writing::write_by;
+use writing::write_measured;
 
 // A table of 490 numbers; crate table says which number is what.
 pub const TABLE: usize = SIZE;
@@ -91,21 +92,29 @@ pub fn write(t: Tables, src: &[u8], out: &mut [u8]) -> Answer
 pub fn length_from(table: &FlatTable, src: &[u8]) -> Answer
     ensures { λ r. ⌜ r ≡ measuredFrom (now (table .entry)) (now (src .entry)) ⌝ }
 {
-    let s = survey_of(table, src.len());
-    if s.fields < BOUND {
-        return length_by(s, table, src.len());
+    match judge(table, src.len()) {
+        Judged::Sound(total) => Answer::Count(total),
+        Judged::Unsound(found) => {
+            if BOUND <= found.fields {
+                return Answer::Refused(wrong(NOT_EXACT, 0));
+            }
+            Answer::Refused(refusal_of(found, table, src.len()))
+        }
     }
-    Answer::Refused(wrong(NOT_EXACT, 0))
 }
 
 pub fn write_from(table: &FlatTable, src: &[u8], out: &mut [u8]) -> Answer
     ensures { λ r. ⌜ WritesFrom (now (table .entry)) (now (src .entry)) (now (out .entry)) r (now (out .exit)) ⌝ }
 {
-    let s = survey_of(table, src.len());
-    if s.fields < BOUND {
-        return write_by(s, table, src, out);
+    match judge(table, src.len()) {
+        Judged::Sound(total) => write_measured(table, src, out, total),
+        Judged::Unsound(found) => {
+            if BOUND <= found.fields {
+                return Answer::Refused(wrong(NOT_EXACT, 0));
+            }
+            Answer::Refused(refusal_of(found, table, src.len()))
+        }
     }
-    Answer::Refused(wrong(NOT_EXACT, 0))
 }
 
 // ---- questions

@@ -8,7 +8,10 @@ ghost use Rattle.reference.specs.Questions.{firstBiop};
 ghost use Rattle.table.specs.Flat.{tablesFrom, nameFrom, nameNumbers, Lent};
 ghost use Rattle.ior_c.specs.Calls.{IorRead, IorReadWhole, IorLength, IorWrite, IorKind, IorTap, IorFirstBiop, IorDvbAddress, IorNameRead, IorNameWrite};
 ghost use Rattle.ior_c.specs.Said.{numberOf, numbersOf, sized, askable, kindNumber, typeNumber, tapResult, tapPair, firstSaid};
-use faults::length_by;
+use faults::Judged;
+use faults::is_exact;
+use faults::judge;
+use faults::refusal_of;
 use names::ShortNameRead;
 use names::read_short_name;
 use names::write_short_name;
@@ -28,15 +31,13 @@ use reference::TapNumbers;
 use reference::View;
 use reference::wrong;
 use survey::BOUND;
-use survey::is_exact;
-use survey::survey_of;
 use table::BIOP;
 use table::PROFILES_USED;
 use table::SIZE;
 use table::number_at;
 use table::put_all;
 use table_entries::sort_at;
-use writing::write_by;
+use writing::write_measured;
 
 // What each function answers when an array has another length than it must have, or a table is not exact.
 pub const NOT_ASKED: u32 = 255;
@@ -126,11 +127,15 @@ pub extern "C" fn ior_length(table: &[u32], s: &[u8], answer: &mut [u64]) -> u32
     if !is_sized(SIZE, table.len(), answer.len()) {
         return NOT_ASKED;
     }
-    let found = survey_of(table, s.len());
-    if BOUND <= found.fields {
-        return NOT_ASKED;
+    match judge(table, s.len()) {
+        Judged::Sound(total) => put_answer(Answer::Count(total), answer),
+        Judged::Unsound(found) => {
+            if BOUND <= found.fields {
+                return NOT_ASKED;
+            }
+            put_answer(Answer::Refused(refusal_of(found, table, s.len())), answer)
+        }
     }
-    put_answer(length_by(found, table, s.len()), answer)
 }
 
 // Writes the image of the table over the source s at the start of `out`: its length, or the refusal, which leaves `out` as it is.
@@ -141,11 +146,15 @@ pub extern "C" fn ior_write(table: &[u32], s: &[u8], out: &mut [u8], answer: &mu
     if !is_sized(SIZE, table.len(), answer.len()) {
         return NOT_ASKED;
     }
-    let found = survey_of(table, s.len());
-    if BOUND <= found.fields {
-        return NOT_ASKED;
+    match judge(table, s.len()) {
+        Judged::Sound(total) => put_answer(write_measured(table, s, out, total), answer),
+        Judged::Unsound(found) => {
+            if BOUND <= found.fields {
+                return NOT_ASKED;
+            }
+            put_answer(Answer::Refused(refusal_of(found, table, s.len())), answer)
+        }
     }
-    put_answer(write_by(found, table, s, out), answer)
 }
 
 // ---- questions

@@ -178,8 +178,8 @@ fn check_output(t: &[u32], total: usize, room: usize) -> Check
     check_sizes(t)
 }
 
-// The same as `write_from`, of a table that measuring has passed, with the image's length.
-fn write_measured(t: &[u32], src: &[u8], out: &mut [u8], total: usize) -> Answer
+// Writes the image, whose length measuring has told, at the start of `out`, and answers that length; or refuses with 5, 4 or 2, and leaves `out` as it is.
+pub fn write_measured(t: &[u32], src: &[u8], out: &mut [u8], total: usize) -> Answer
     requires { ⌜ Lent (now t) × (measureCheck (tablesFrom (now t)) (length (now src)) ≡ Pass) × (total ≡ sizeOf (usedOf (tablesFrom (now t)))) ⌝ }
     ensures { λ r. ⌜ Writes (tablesFrom (now (t .entry))) (now (src .entry)) (now (out .entry)) r (now (out .exit)) ⌝ }
 {
