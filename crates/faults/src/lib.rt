@@ -10,7 +10,7 @@ ghost use Rattle.reference.specs.Checks.{both, each};
 ghost use Rattle.reference.specs.Meaning.{sum};
 ghost use Rattle.reference.specs.Tabled.{usedOf};
 ghost use Rattle.reference.specs.Used.{tapsIn, namesIn, extrasIn, ownedOf};
-ghost use Rattle.reference.specs.Writer.{tapSize, sizeOf, told, measured, usedCheck, sumCheck, counted, countsCheck, viewCheck, entryViews, viewsCheck, shortCheck, extraShort, ownShort, measureCheck};
+ghost use Rattle.reference.specs.Writer.{tapSize, measured, usedCheck, sumCheck, counted, countsCheck, viewCheck, entryViews, viewsCheck, shortCheck, extraShort, ownShort, measureCheck};
 ghost use Rattle.table.specs.Flat.{viewFrom, tablesFrom, profileOfTable, profileRegion, tapRegion, extraRegion, tableSize, Lent, tapsUsed, extrasUsed};
 ghost use Rattle.table.specs.Region.{listed};
 ghost use Rattle.survey.specs.ByTable.{usedIn};
@@ -230,23 +230,16 @@ pub fn refusal_of(s: Survey, t: &[u32], n: usize) -> Refusal
     too_large(10, s.octets)
 }
 
-// The image's length over a source of n octets, by a survey of the table; or 6, 8, 9 or 10.
-pub fn length_by(s: Survey, t: &[u32], n: usize) -> Answer
-    requires { ⌜ Lent (now t) × Surveyed (min n 65535) (now t) s ⌝ }
-    ensures { λ r. ⌜ r ≡ told (measureCheck (tablesFrom (now (t .entry))) n) (sizeOf (usedOf (tablesFrom (now (t .entry))))) ⌝ }
-{
-    if is_sound(s, t, n) {
-        return Answer::Count(s.octets);
-    }
-    Answer::Refused(refusal_of(s, t, n))
-}
-
-// The image's length over src.
+// The image's length over src; or 6, 8, 9 or 10.
 pub fn length_from(t: &[u32], src: &[u8]) -> Answer
     requires { ⌜ Lent (now t) ⌝ }
     ensures { λ r. ⌜ r ≡ measured (tablesFrom (now (t .entry))) (now (src .entry)) ⌝ }
 {
-    length_by(survey_of(t, src.len()), t, src.len())
+    let s = survey_of(t, src.len());
+    if is_sound(s, t, src.len()) {
+        return Answer::Count(s.octets);
+    }
+    Answer::Refused(refusal_of(s, t, src.len()))
 }
 
 // What one survey says of a lent table over a source: it is sound, that is exact and nothing that measuring refuses, and its image so long; or what was seen.

@@ -1,7 +1,7 @@
 // Writing a reference: all checks first, in the order of document 01 (6, 8, 9, 10, 5, 4, 2), then the stores; no octet is stored before every
 // check has passed.
 ghost use mathlib.Core.Path.{_≡_};
-ghost use Prim.Native.Nat.{_+_, _≤_, _<_, min};
+ghost use Prim.Native.Nat.{_+_, _≤_, _<_};
 ghost use lib.ListN.{length};
 ghost use Rattle.octets.specs.Put.{Put};
 ghost use Rattle.reference.specs.declared.Check.the-variants.{Pass};
@@ -13,7 +13,6 @@ ghost use Rattle.reference.specs.Checks.{both, each};
 ghost use Rattle.reference.specs.Meaning.{sum};
 ghost use Rattle.reference.specs.Writer.{ownSize, sizeOf, imageOf, countsCheck, roomCheck, typeCheck, ownShort, measureCheck, writeCheck, measured};
 ghost use Rattle.table.specs.Flat.{bodyOfTable, tablesFrom, profileRegion, Lent};
-ghost use Rattle.survey.specs.Seen.{Surveyed};
 ghost use Rattle.write_bodies.specs.Own.{OwnSound, PutAll, PutOwn};
 ghost use Rattle.writing.specs.Own.{countsIn, ownOn, afterOf, Placed};
 ghost use Rattle.writing.specs.Writes.{Writes};
@@ -27,7 +26,6 @@ use reference::Check;
 use reference::Tables;
 use reference::no_room;
 use reference::wrong;
-use survey::Survey;
 use survey::survey_of;
 use table::BIOP;
 use table::Counts;
@@ -190,22 +188,16 @@ pub fn write_measured(t: &[u32], src: &[u8], out: &mut [u8], total: usize) -> An
     Answer::Count(write_image(t, src, out))
 }
 
-// Writes the image at the start of `out` and answers its length; or refuses, and leaves `out` as it is. By a survey of the table over the source.
-pub fn write_by(s: Survey, t: &[u32], src: &[u8], out: &mut [u8]) -> Answer
-    requires { ⌜ Lent (now t) × Surveyed (min (length (now src)) 65535) (now t) s ⌝ }
-    ensures { λ r. ⌜ Writes (tablesFrom (now (t .entry))) (now (src .entry)) (now (out .entry)) r (now (out .exit)) ⌝ }
-{
-    if is_sound(s, t, src.len()) {
-        return write_measured(t, src, out, s.octets);
-    }
-    Answer::Refused(refusal_of(s, t, src.len()))
-}
-
+// Writes the image at the start of `out` and answers its length; or refuses, and leaves `out` as it is.
 pub fn write_from(t: &[u32], src: &[u8], out: &mut [u8]) -> Answer
     requires { ⌜ Lent (now t) ⌝ }
     ensures { λ r. ⌜ Writes (tablesFrom (now (t .entry))) (now (src .entry)) (now (out .entry)) r (now (out .exit)) ⌝ }
 {
-    write_by(survey_of(t, src.len()), t, src, out)
+    let s = survey_of(t, src.len());
+    if is_sound(s, t, src.len()) {
+        return write_measured(t, src, out, s.octets);
+    }
+    Answer::Refused(refusal_of(s, t, src.len()))
 }
 
 // The length of the image of tables by value; or 6, 8, 9 or 10.

@@ -1,18 +1,29 @@
 -- `faults::length_from` meets its contract. The length of the source is all that measuring asks of it. Assumes nothing.
 use borrow.Author.Needs.{needs}
-use Rattle.reference.specs.Writer.{measured}
+use mathlib.Core.Path.{sym, _∙_}
+use Rattle.faults.proofs.Judging.{passed-measured, refused-measured, passed-octets}
 use Rattle.faults.proofs.length_from.Statement.{statement}
 use Rattle.faults.proofs.length_from.Tie as tie
 
 survey-of-requires : tie.Need-survey-of-requires
 survey-of-requires c κs = search needs
 
-length-by-requires : tie.Need-length-by-requires
-length-by-requires c κs = search needs
+is-sound-requires : tie.Need-is-sound-requires
+is-sound-requires c κs = search needs
 
 returns : tie.Need-returns
-unfolding measured
-returns c = c .length-by .ensures
+returns c =
+    let (p, e) = passed-octets _ (c .before .before .survey-of .ensures) (sym (c .before .is-sound .ensures) ∙ c .if1 .taken) in
+    passed-measured _ _ p e
+
+refusal-of-requires : tie.Need-refusal-of-requires
+refusal-of-requires c κs =
+    let v = c .before .before in
+    (v .before .before .before .pre, v .survey-of .ensures, sym (c .before .is-sound .ensures) ∙ c .if1 .left)
+
+returns-2 : tie.Need-returns-2
+returns-2 c = refused-measured _ _ (c .refusal-of .ensures)
 
 pub length-from-spec : {M : Type 1} → statement M
-length-from-spec = tie.close (tie.spec survey-of-requires length-by-requires returns)
+length-from-spec =
+    tie.close (tie.spec survey-of-requires is-sound-requires returns refusal-of-requires returns-2)
