@@ -12,6 +12,8 @@ use reference::Refusal;
 use reference::Tables;
 use reference::TaggedProfile;
 use reference::View;
+use table::MODULE;
+use table::PROFILES_AT;
 
 fn say(text: &[u8]) -> bool {
     io::write_all(STDOUT_FILENO, text)
@@ -124,23 +126,26 @@ fn say_answer(text: &[u8], answer: Answer) -> bool {
     }
 }
 
+// Which number of a lent table is the module of the first profile.
+const FIRST_MODULE: usize = PROFILES_AT + MODULE;
+
 // A module that is wider than its two octets is refused, and not cut: 65578 would be written as 42.
 fn write_too_wide(s: &[u8], table: &mut FlatTable) -> bool {
     let mut out = [0u8; 64];
-    table[8] = 65578;
+    table[FIRST_MODULE] = 65578;
     let length = ior::length_from(table, s);
     let written = ior::write_from(table, s, &mut out);
     say_answer(b"lent, too wide: length", length) && say_answer(b"lent, too wide: written", written)
 }
 
-// The same by a table that the caller lends, whatever it held before: number 8 is the module of the first profile.
+// The same by a table that the caller lends, whatever it held before.
 fn lend_a_table(s: &[u8]) -> bool {
     let mut table = [0xA5A5A5A5u32; TABLE];
     let mut out = [0u8; 64];
     let read = ior::read_whole_into(s, &mut table);
     let written = ior::write_from(&table, s, &mut out);
     say_answer(b"lent: read", read)
-        && say_number(b"lent: module ", long(table[8]))
+        && say_number(b"lent: module ", long(table[FIRST_MODULE]))
         && say_answer(b"lent: written", written)
         && write_too_wide(s, &mut table)
 }

@@ -1,5 +1,4 @@
 // The rows of a cache's listing as octets.
-ghost use mathlib.Core.Path.{_≡_};
 ghost use Prim.Native.Nat.{_+_, _≤_, _<_};
 ghost use lib.ListN.{length};
 ghost use Rattle.text.specs.Written.{Written};
@@ -13,6 +12,9 @@ use records::Record;
 use records::record_at;
 use reference::Answer;
 use reference::ObjectKind;
+use table::PROFILES_USED;
+use table::TYPE_ID;
+use table::TYPE_ID_LEN;
 use text::put_decimal;
 use text::put_octet;
 use text::put_spaced;
@@ -45,10 +47,10 @@ fn put_answer(s: &[u8], table: &mut [u32], out: &mut [u8], at: usize) -> usize
     match read_whole_into(s, table) {
         Answer::Refused(why) => put_refused(why.number, out, at),
         Answer::Count(_) => {
-            let start = table[0] as usize;
-            let stop = start + table[1] as usize;
+            let start = table[TYPE_ID] as usize;
+            let stop = start + table[TYPE_ID_LEN] as usize;
             let kind = object_kind(&s[start..stop]);
-            put_found(kind, table[2], out, at)
+            put_found(kind, table[PROFILES_USED], out, at)
         }
     }
 }

@@ -78,7 +78,7 @@ namesUsed t = getD t 4 0
 abbrev pub extrasUsed : List ℕ → ℕ
 extrasUsed t = getD t 5 0
 
--- ---- the entry whose numbers stand from k on; of a number wider than its field the low bits count
+-- ---- the numbers of the entry that stands from k on
 
 -- the view whose two numbers stand at i and j
 abbrev pub viewAt : List ℕ → ℕ → ℕ → View
@@ -87,9 +87,79 @@ viewAt t i j = record { at = getD t i 0; len = getD t j 0 }
 abbrev pub viewFrom : List ℕ → ℕ → View
 viewFrom t k = viewAt t k (k + 1)
 
+-- a tap
+abbrev pub tapIdAt : List ℕ → ℕ → ℕ
+tapIdAt t k = getD t k 0
+
+abbrev pub tapUseAt : List ℕ → ℕ → ℕ
+tapUseAt t k = getD t (k + 1) 0
+
+abbrev pub associationAt : List ℕ → ℕ → ℕ
+associationAt t k = getD t (k + 2) 0
+
+abbrev pub selectorAt : List ℕ → ℕ → View
+selectorAt t k = viewAt t (k + 3) (k + 4)
+
+-- a profile, whose other numbers are named by its sort
+abbrev pub sortAt : List ℕ → ℕ → ℕ
+sortAt t k = getD t k 0
+
+abbrev pub carouselAt : List ℕ → ℕ → ℕ
+carouselAt t k = getD t (k + 1) 0
+
+-- .. of BIOP
+abbrev pub moduleAt : List ℕ → ℕ → ℕ
+moduleAt t k = getD t (k + 2) 0
+
+abbrev pub majorAt : List ℕ → ℕ → ℕ
+majorAt t k = getD t (k + 3) 0
+
+abbrev pub minorAt : List ℕ → ℕ → ℕ
+minorAt t k = getD t (k + 4) 0
+
+abbrev pub keyAt : List ℕ → ℕ → View
+keyAt t k = viewAt t (k + 5) (k + 6)
+
+abbrev pub biopTapsAt : List ℕ → ℕ → ℕ
+biopTapsAt t k = getD t (k + 7) 0
+
+abbrev pub biopExtrasAt : List ℕ → ℕ → ℕ
+biopExtrasAt t k = getD t (k + 8) 0
+
+-- .. of LiteOptions
+abbrev pub specifierAt : List ℕ → ℕ → ℕ
+specifierAt t k = getD t (k + 2) 0
+
+abbrev pub transportAt : List ℕ → ℕ → ℕ
+transportAt t k = getD t (k + 3) 0
+
+abbrev pub networkAt : List ℕ → ℕ → ℕ
+networkAt t k = getD t (k + 4) 0
+
+abbrev pub serviceAt : List ℕ → ℕ → ℕ
+serviceAt t k = getD t (k + 5) 0
+
+abbrev pub liteNamesAt : List ℕ → ℕ → ℕ
+liteNamesAt t k = getD t (k + 6) 0
+
+abbrev pub contextAt : List ℕ → ℕ → View
+contextAt t k = viewAt t (k + 7) (k + 8)
+
+abbrev pub liteExtrasAt : List ℕ → ℕ → ℕ
+liteExtrasAt t k = getD t (k + 9) 0
+
+-- .. of an opaque one
+abbrev pub tagAt : List ℕ → ℕ → ℕ
+tagAt t k = getD t (k + 1) 0
+
+abbrev pub dataAt : List ℕ → ℕ → View
+dataAt t k = viewAt t (k + 2) (k + 3)
+
+-- ---- the entry that they tell; of a number wider than its field the low bits count
+
 abbrev pub tapFrom : List ℕ → ℕ → Tap
 tapFrom t k =
-    record { id = getD t k 0 % 65536; «use_» = getD t (k + 1) 0 % 65536; association = getD t (k + 2) 0 % 65536; selector = viewAt t (k + 3) (k + 4) }
+    record { id = tapIdAt t k % 65536; «use_» = tapUseAt t k % 65536; association = associationAt t k % 65536; selector = selectorAt t k }
 
 abbrev pub nameFrom : List ℕ → ℕ → NameComponent
 nameFrom t k = record { id = viewAt t k (k + 1); kind = viewAt t (k + 2) (k + 3) }
@@ -100,37 +170,37 @@ extraFrom t k = record { tag = getD t k 0; «data» = viewAt t (k + 1) (k + 2) }
 abbrev pub locationFrom : List ℕ → ℕ → ObjectLocation
 locationFrom t k =
     record {
-      carousel = getD t (k + 1) 0;
-      «module» = getD t (k + 2) 0 % 65536;
-      «version_major» = getD t (k + 3) 0 % 256;
-      «version_minor» = getD t (k + 4) 0 % 256;
-      key = viewAt t (k + 5) (k + 6);
+      carousel = carouselAt t k;
+      «module» = moduleAt t k % 65536;
+      «version_major» = majorAt t k % 256;
+      «version_minor» = minorAt t k % 256;
+      key = keyAt t k;
     }
 
 abbrev pub addressFrom : List ℕ → ℕ → NsapAddress
 addressFrom t k =
     record {
-      carousel = getD t (k + 1) 0;
-      specifier0 = getD t (k + 2) 0 / 65536 % 256;
-      specifier1 = getD t (k + 2) 0 / 256 % 256;
-      specifier2 = getD t (k + 2) 0 % 256;
-      «transport_stream» = getD t (k + 3) 0 % 65536;
-      «original_network» = getD t (k + 4) 0 % 65536;
-      service = getD t (k + 5) 0 % 65536;
+      carousel = carouselAt t k;
+      specifier0 = specifierAt t k / 65536 % 256;
+      specifier1 = specifierAt t k / 256 % 256;
+      specifier2 = specifierAt t k % 256;
+      «transport_stream» = transportAt t k % 65536;
+      «original_network» = networkAt t k % 65536;
+      service = serviceAt t k % 65536;
     }
 
 abbrev pub biopFrom : List ℕ → ℕ → TaggedProfile
-biopFrom t k = Sort.Biop (locationFrom t k) (getD t (k + 7) 0) (getD t (k + 8) 0)
+biopFrom t k = Sort.Biop (locationFrom t k) (biopTapsAt t k) (biopExtrasAt t k)
 
 abbrev pub liteFrom : List ℕ → ℕ → TaggedProfile
-liteFrom t k = Sort.LiteOptions (addressFrom t k) (getD t (k + 6) 0) (viewAt t (k + 7) (k + 8)) (getD t (k + 9) 0)
+liteFrom t k = Sort.LiteOptions (addressFrom t k) (liteNamesAt t k) (contextAt t k) (liteExtrasAt t k)
 
 abbrev pub opaqueFrom : List ℕ → ℕ → TaggedProfile
-opaqueFrom t k = Sort.Opaque (getD t (k + 1) 0) (viewAt t (k + 2) (k + 3))
+opaqueFrom t k = Sort.Opaque (tagAt t k) (dataAt t k)
 
 -- any sort but 1 and 2 is opaque
 unfoldable pub bodyFrom : List ℕ → ℕ → TaggedProfile
-bodyFrom t k = pick (eqb (getD t k 0) 1) (biopFrom t k) (pick (eqb (getD t k 0) 2) (liteFrom t k) (opaqueFrom t k))
+bodyFrom t k = pick (eqb (sortAt t k) 1) (biopFrom t k) (pick (eqb (sortAt t k) 2) (liteFrom t k) (opaqueFrom t k))
 
 abbrev pub profileFrom : List ℕ → ℕ → Profile
 profileFrom t k = record { body = bodyFrom t k }

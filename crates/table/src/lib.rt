@@ -21,6 +21,8 @@ use reference::View;
 // What stands where: at the front the type id's view and the used counts, then the entries of each sort, `WIDTH` numbers each.
 pub const TYPE_ID: usize = 0;
 
+pub const TYPE_ID_LEN: usize = 1;
+
 pub const PROFILES_USED: usize = 2;
 
 pub const TAPS_USED: usize = 3;
@@ -54,6 +56,64 @@ pub const OPAQUE: u32 = 0;
 pub const BIOP: u32 = 1;
 
 pub const LITE_OPTIONS: u32 = 2;
+
+// The other numbers of a profile's entry, counted from the first; a view is two numbers. Of BIOP:
+pub const CAROUSEL: usize = 1;
+
+pub const MODULE: usize = 2;
+
+pub const VERSION_MAJOR: usize = 3;
+
+pub const VERSION_MINOR: usize = 4;
+
+pub const KEY_AT: usize = 5;
+
+pub const KEY_LEN: usize = 6;
+
+pub const BIOP_TAPS: usize = 7;
+
+pub const BIOP_EXTRAS: usize = 8;
+
+// Of LiteOptions, behind its carousel:
+pub const SPECIFIER: usize = 2;
+
+pub const TRANSPORT_STREAM: usize = 3;
+
+pub const ORIGINAL_NETWORK: usize = 4;
+
+pub const SERVICE: usize = 5;
+
+pub const LITE_NAMES: usize = 6;
+
+pub const CONTEXT_AT: usize = 7;
+
+pub const CONTEXT_LEN: usize = 8;
+
+pub const LITE_EXTRAS: usize = 9;
+
+// Of an opaque profile:
+pub const OPAQUE_TAG: usize = 1;
+
+pub const OPAQUE_AT: usize = 2;
+
+pub const OPAQUE_LEN: usize = 3;
+
+// Of a tap, behind its id; of a name, behind its id's view; of an extra, behind its tag.
+pub const TAP_USE: usize = 1;
+
+pub const TAP_ASSOCIATION: usize = 2;
+
+pub const SELECTOR_AT: usize = 3;
+
+pub const SELECTOR_LEN: usize = 4;
+
+pub const KIND_AT: usize = 2;
+
+pub const KIND_LEN: usize = 3;
+
+pub const DATA_AT: usize = 1;
+
+pub const DATA_LEN: usize = 2;
 
 // How many entries of each table are used so far; an entry past a table's end is counted and not stored.
 pub struct Counts {

@@ -12,15 +12,40 @@ use reference::ObjectLocation;
 use reference::Tap;
 use reference::View;
 use table::BIOP;
+use table::BIOP_EXTRAS;
+use table::BIOP_TAPS;
+use table::CAROUSEL;
+use table::CONTEXT_AT;
+use table::DATA_AT;
+use table::DATA_LEN;
 use table::EXTRA_WIDTH;
 use table::EXTRAS_AT;
+use table::KEY_AT;
+use table::KEY_LEN;
+use table::KIND_AT;
+use table::KIND_LEN;
+use table::LITE_EXTRAS;
+use table::LITE_NAMES;
 use table::LITE_OPTIONS;
+use table::MODULE;
 use table::NAME_WIDTH;
 use table::NAMES_AT;
+use table::OPAQUE_AT;
+use table::OPAQUE_TAG;
+use table::ORIGINAL_NETWORK;
 use table::PROFILE_WIDTH;
 use table::PROFILES_AT;
+use table::SELECTOR_AT;
+use table::SELECTOR_LEN;
+use table::SERVICE;
+use table::SPECIFIER;
+use table::TAP_ASSOCIATION;
+use table::TAP_USE;
 use table::TAP_WIDTH;
 use table::TAPS_AT;
+use table::TRANSPORT_STREAM;
+use table::VERSION_MAJOR;
+use table::VERSION_MINOR;
 use table::number_at;
 
 pub fn view_at(s: &[u32], at: usize) -> View
@@ -39,13 +64,13 @@ pub fn tap_at(s: &[u32], i: usize) -> Tap
 {
     let at = TAPS_AT + TAP_WIDTH * i;
     let selector = View {
-        at: s[at + 3],
-        len: s[at + 4],
+        at: s[at + SELECTOR_AT],
+        len: s[at + SELECTOR_LEN],
     };
     Tap {
         id: (s[at] % 65536) as u16,
-        use_: (s[at + 1] % 65536) as u16,
-        association: (s[at + 2] % 65536) as u16,
+        use_: (s[at + TAP_USE] % 65536) as u16,
+        association: (s[at + TAP_ASSOCIATION] % 65536) as u16,
         selector,
     }
 }
@@ -60,8 +85,8 @@ pub fn name_at(s: &[u32], i: usize) -> NameComponent
         len: s[at + 1],
     };
     let kind = View {
-        at: s[at + 2],
-        len: s[at + 3],
+        at: s[at + KIND_AT],
+        len: s[at + KIND_LEN],
     };
     NameComponent { id, kind }
 }
@@ -72,8 +97,8 @@ pub fn extra_at(s: &[u32], i: usize) -> LiteComponent
 {
     let at = EXTRAS_AT + EXTRA_WIDTH * i;
     let data = View {
-        at: s[at + 1],
-        len: s[at + 2],
+        at: s[at + DATA_AT],
+        len: s[at + DATA_LEN],
     };
     LiteComponent { tag: s[at], data }
 }
@@ -91,7 +116,7 @@ pub fn tag_at(s: &[u32], i: usize) -> u32
     requires { ⌜ (i < profileRegion .size) × Lent (now s) ⌝ }
     ensures { λ r. ⌜ r ≡ getD (now (s .entry)) (entry profileRegion i + 1) 0 ⌝ }
 {
-    s[PROFILES_AT + PROFILE_WIDTH * i + 1]
+    s[PROFILES_AT + PROFILE_WIDTH * i + OPAQUE_TAG]
 }
 
 // Its number j as a count, and its view at number j.
@@ -119,7 +144,7 @@ pub fn taps_at(s: &[u32], i: usize) -> usize
     ensures { λ r. ⌜ (r ≡ tapsIn (bodyOfTable (now (s .entry)) i)) × (r < 0x100000000) ⌝ }
 {
     if sort_at(s, i) == BIOP {
-        return count_at(s, i, 7);
+        return count_at(s, i, BIOP_TAPS);
     }
     0
 }
@@ -129,7 +154,7 @@ pub fn names_at(s: &[u32], i: usize) -> usize
     ensures { λ r. ⌜ (r ≡ namesIn (bodyOfTable (now (s .entry)) i)) × (r < 0x100000000) ⌝ }
 {
     if sort_at(s, i) == LITE_OPTIONS {
-        return count_at(s, i, 6);
+        return count_at(s, i, LITE_NAMES);
     }
     0
 }
@@ -140,10 +165,10 @@ pub fn extras_at(s: &[u32], i: usize) -> usize
 {
     let sort = sort_at(s, i);
     if sort == BIOP {
-        return count_at(s, i, 8);
+        return count_at(s, i, BIOP_EXTRAS);
     }
     if sort == LITE_OPTIONS {
-        return count_at(s, i, 9);
+        return count_at(s, i, LITE_EXTRAS);
     }
     0
 }
@@ -155,12 +180,12 @@ pub fn profile_view(s: &[u32], i: usize) -> View
 {
     let sort = sort_at(s, i);
     if sort == BIOP {
-        return view_in(s, i, 5);
+        return view_in(s, i, KEY_AT);
     }
     if sort == LITE_OPTIONS {
-        return view_in(s, i, 7);
+        return view_in(s, i, CONTEXT_AT);
     }
-    view_in(s, i, 2)
+    view_in(s, i, OPAQUE_AT)
 }
 
 // Of a BIOP profile.
@@ -170,14 +195,14 @@ pub fn location_at(s: &[u32], i: usize) -> ObjectLocation
 {
     let at = PROFILES_AT + PROFILE_WIDTH * i;
     let key = View {
-        at: s[at + 5],
-        len: s[at + 6],
+        at: s[at + KEY_AT],
+        len: s[at + KEY_LEN],
     };
     ObjectLocation {
-        carousel: s[at + 1],
-        module: (s[at + 2] % 65536) as u16,
-        version_major: (s[at + 3] % 256) as u8,
-        version_minor: (s[at + 4] % 256) as u8,
+        carousel: s[at + CAROUSEL],
+        module: (s[at + MODULE] % 65536) as u16,
+        version_major: (s[at + VERSION_MAJOR] % 256) as u8,
+        version_minor: (s[at + VERSION_MINOR] % 256) as u8,
         key,
     }
 }
@@ -188,14 +213,14 @@ pub fn address_at(s: &[u32], i: usize) -> NsapAddress
     ensures { λ r. ⌜ r ≡ addressFrom (now (s .entry)) (entry profileRegion i) ⌝ }
 {
     let at = PROFILES_AT + PROFILE_WIDTH * i;
-    let specifier = s[at + 2];
+    let specifier = s[at + SPECIFIER];
     NsapAddress {
-        carousel: s[at + 1],
+        carousel: s[at + CAROUSEL],
         specifier0: (specifier / 65536 % 256) as u8,
         specifier1: (specifier / 256 % 256) as u8,
         specifier2: (specifier % 256) as u8,
-        transport_stream: (s[at + 3] % 65536) as u16,
-        original_network: (s[at + 4] % 65536) as u16,
-        service: (s[at + 5] % 65536) as u16,
+        transport_stream: (s[at + TRANSPORT_STREAM] % 65536) as u16,
+        original_network: (s[at + ORIGINAL_NETWORK] % 65536) as u16,
+        service: (s[at + SERVICE] % 65536) as u16,
     }
 }

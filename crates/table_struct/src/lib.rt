@@ -17,9 +17,18 @@ use reference::TaggedProfile;
 use reference::Tap;
 use reference::View;
 use table::BIOP;
+use table::BIOP_EXTRAS;
+use table::BIOP_TAPS;
+use table::CONTEXT_AT;
+use table::CONTEXT_LEN;
 use table::EXTRAS_USED;
+use table::LITE_EXTRAS;
+use table::LITE_NAMES;
 use table::LITE_OPTIONS;
 use table::NAMES_USED;
+use table::OPAQUE_AT;
+use table::OPAQUE_LEN;
+use table::OPAQUE_TAG;
 use table::PROFILE_WIDTH;
 use table::PROFILES_AT;
 use table::PROFILES_USED;
@@ -50,8 +59,8 @@ fn biop_at(s: &[u32], i: usize) -> TaggedProfile
     let location = location_at(s, i);
     TaggedProfile::Biop {
         location,
-        taps: s[at + 7],
-        extras: s[at + 8],
+        taps: s[at + BIOP_TAPS],
+        extras: s[at + BIOP_EXTRAS],
     }
 }
 
@@ -62,14 +71,14 @@ fn lite_at(s: &[u32], i: usize) -> TaggedProfile
     let at = PROFILES_AT + PROFILE_WIDTH * i;
     let address = address_at(s, i);
     let context = View {
-        at: s[at + 7],
-        len: s[at + 8],
+        at: s[at + CONTEXT_AT],
+        len: s[at + CONTEXT_LEN],
     };
     TaggedProfile::LiteOptions {
         address,
-        names: s[at + 6],
+        names: s[at + LITE_NAMES],
         context,
-        extras: s[at + 9],
+        extras: s[at + LITE_EXTRAS],
     }
 }
 
@@ -79,11 +88,11 @@ fn opaque_at(s: &[u32], i: usize) -> TaggedProfile
 {
     let at = PROFILES_AT + PROFILE_WIDTH * i;
     let data = View {
-        at: s[at + 2],
-        len: s[at + 3],
+        at: s[at + OPAQUE_AT],
+        len: s[at + OPAQUE_LEN],
     };
     TaggedProfile::Opaque {
-        tag: s[at + 1],
+        tag: s[at + OPAQUE_TAG],
         data,
     }
 }

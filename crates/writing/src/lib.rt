@@ -23,6 +23,7 @@ use faults::refusal_of;
 use octets::put32;
 use reference::Answer;
 use reference::Check;
+use reference::PLACE_TYPE_ID_LENGTH;
 use reference::Tables;
 use reference::no_room;
 use reference::wrong;
@@ -167,7 +168,7 @@ fn check_output(t: &[u32], total: usize, room: usize) -> Check
     }
     let type_id = view_at(t, TYPE_ID);
     if type_id.len % 4 != 0 {
-        return Check::Refuse(wrong(4, 33));
+        return Check::Refuse(wrong(4, PLACE_TYPE_ID_LENGTH));
     }
     // In an image of at most 255 octets no component is longer.
     if total <= 255 {
