@@ -49,6 +49,7 @@ use table::EXTRA_WIDTH;
 use table::EXTRAS_USED;
 use table::NAMES_USED;
 use table::PROFILES_USED;
+use table::SELECTOR_AT;
 use table::TAP_WIDTH;
 use table::TAPS_AT;
 use table::TAPS_USED;
@@ -66,10 +67,10 @@ use table_entries::view_at;
 const PLACE_TYPE_ID: u8 = 0;
 
 // Where the views of taps begin.
-const TAP_VIEWS_AT: usize = TAPS_AT + 3;
+const TAP_VIEWS_AT: usize = TAPS_AT + SELECTOR_AT;
 
 // Inside a component with a length of one octet: ObjectLocation without its key, ConnBinder without its taps, and the most that it may hold.
-const LOCATION_FIXED: usize = 9;
+const LOCATION_FIXED: usize = 4 + 2 + 1 + 1 + 1;
 
 const BINDER_FIXED: usize = 1;
 

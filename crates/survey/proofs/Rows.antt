@@ -13,7 +13,7 @@ use Rattle.reference.specs.Meaning.{sum}
 use Rattle.table.specs.Region.{listed}
 use Rattle.survey.specs.declared.Survey.{Survey}
 use Rattle.survey.specs.Exact.{every}
-use Rattle.survey.specs.Seen.{holds, passing, added, allSeen}
+use Rattle.survey.specs.Seen.{holds, passing, added, allSeen, withFixed}
 use Rattle.survey.proofs.Marks.{or-more}
 
 -- ---- checks in a row
@@ -83,6 +83,9 @@ module _ {A B : Type 0} (v : ℕ → A) (e : ℕ → B) where
 -- the mark of ends tells whether a check passes
 pub record Ends (s : Survey) (d : Check) : Type 0 where
   pub told : holds (s .ends) ≡ passing d
+
+pub fixed-ends : (k : ℕ) {s : Survey} {d : Check} → Ends s d → Ends (withFixed s k) d
+fixed-ends k h = record { told = h .told }
 
 module _ (f : ℕ → Survey) where
   pub sum-seen : (p : Survey → ℕ) → ((a b : Survey) → p (added a b) ≡ p a + p b) → {E : Type 0} (g : E → ℕ) (e : ℕ → E) → ((i : ℕ) → p (f i) ≡ g (e i))

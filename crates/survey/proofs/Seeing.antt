@@ -15,7 +15,7 @@ unfolding allSeen
 see-begin = record { seen = refl; grown = (omega arith, omega arith, omega arith, omega arith) }
 
 module _ {f : ℕ → Survey} {s a : Survey} {i : ℕ} (g : Seeing f s a i) where
-  pub see-bounded : i ≤ 64 → Bounded 500 s → Bounded 999 a
+  pub see-bounded : i ≤ 64 → Bounded 501 s → Bounded 999 a
   see-bounded h b = let w = g .grown in (omega arith, omega arith, omega arith, omega arith)
 
   next : added (allSeen f i s) (f i) ≡ allSeen f (i + 1) s
@@ -37,3 +37,10 @@ module _ {f : ℕ → Survey} {s a : Survey} {i : ℕ} (g : Seeing f s a i) wher
 
   pub see-end : {n : ℕ} → i ≡ n → n ≤ 64 → (a ≡ allSeen f n s) × Grown 64 s a
   see-end {n} e h = let w = g .grown in (g .seen ∙ ap (λ (k : ℕ). allSeen f k s) e, (omega arith, omega arith, omega arith, omega arith))
+
+-- .. where the fixed fields of all entries were added before the first
+pub fixed-bounded : (b s : Survey) → Bounded 500 b → Grown 1 b s → Bounded 501 s
+fixed-bounded b s h g = (omega arith, omega arith, omega arith, omega arith)
+
+pub fixed-grown : (b s a : Survey) → Grown 1 b s → Grown 64 s a → Grown 65 b a
+fixed-grown b s a g h = (omega arith, omega arith, omega arith, omega arith)

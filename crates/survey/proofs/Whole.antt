@@ -20,10 +20,10 @@ use Rattle.table.specs.Flat.{viewAt, viewFrom, biopFrom, liteFrom, opaqueFrom, 
 use Rattle.table.specs.Region.{entry, listed}
 use Rattle.survey.specs.declared.Survey.{Survey}
 use Rattle.survey.specs.Exact.{locationExact, addressExact, profileExact, profilesExact, tapExact, tapsExact, exact}
-use Rattle.survey.specs.ByTable.{bodyOctets, entrySize, usedIn}
-use Rattle.survey.specs.Seen.{holds, passing, biopSeen, liteSeen, opaqueSeen, profileSeen, tapSeen, viewSeen, added, allSeen, fixedOctets, tableSeen, nameView, extraView, Surveyed}
+use Rattle.survey.specs.ByTable.{frontFixed, tapFixed, nameFixed, extraFixed, bodyOctets, entrySize, usedIn}
+use Rattle.survey.specs.Seen.{holds, passing, biopSeen, liteSeen, opaqueSeen, profileSeen, tapSeen, viewSeen, added, allSeen, withFixed, tableSeen, nameView, extraView, Surveyed}
 use Rattle.survey.proofs.Marks.{or-more, end-holds, location-holds, address-holds, tap-holds, sort-holds}
-use Rattle.survey.proofs.Rows.{take-listed, sum-pairs, sum-fixed, sum-alike, each-pairs, sum-seen, kept, fields-seen, ends-seen, both-more}
+use Rattle.survey.proofs.Rows.{take-listed, sum-pairs, sum-fixed, sum-alike, each-pairs, sum-seen, kept, fields-seen, ends-seen, fixed-ends, both-more}
 
 -- ---- the used entries, and where their views stand
 
@@ -75,12 +75,6 @@ module _ (t : List ℕ) where
         sum-alike nameSize (λ x. 8 + (x .id .len + x .kind .len)) (nameOfTable t) (λ x. omega arith) k,
       )
 
--- what is seen of the used entries
-abbrev pub wholeSeen : ℕ → List ℕ → Survey
-wholeSeen n t =
-    tableSeen n t (min (profilesUsed t) (profileRegion .size)) (min (tapsUsed t) (tapRegion .size)) (min (namesUsed t) (nameRegion .size))
-    (min (extrasUsed t) (extraRegion .size))
-
 -- ---- over a source of n octets
 
 module _ (n : ℕ) (few : n ≤ 65535) where
@@ -124,82 +118,97 @@ module _ (n : ℕ) (few : n ≤ 65535) where
     tap i = tapSeen n t (entry tapRegion i)
 
     abbrev nameHalf : ℕ → Survey
-    nameHalf i = viewSeen 0 n t (nameView + 2 * i)
+    nameHalf i = viewSeen n t (nameView + 2 * i)
 
     abbrev extra : ℕ → Survey
-    extra i = viewSeen 0 n t (extraView + extraRegion .width * i)
+    extra i = viewSeen n t (extraView + extraRegion .width * i)
 
-    module _ (np nt nn ne : ℕ) where
-      abbrev profiled : Survey
-      profiled = allSeen profile np (viewSeen (fixedOctets nt nn ne) n t 0)
+    abbrev np : ℕ
+    np = min (profilesUsed t) (profileRegion .size)
 
-      abbrev tapped : Survey
-      tapped = allSeen tap nt profiled
+    abbrev nt : ℕ
+    nt = min (tapsUsed t) (tapRegion .size)
 
-      abbrev named : Survey
-      named = allSeen nameHalf (2 * nn) tapped
+    abbrev nn : ℕ
+    nn = min (namesUsed t) (nameRegion .size)
 
-      -- only profiles count entries
-      counts : (p : Survey → ℕ) (g : TaggedProfile → ℕ) → ((a b : Survey) → p (added a b) ≡ p a + p b) → ((fixed k : ℕ) → p (viewSeen fixed n t k) ≡ 0) → ((k : ℕ) → p (tapSeen n t k) ≡ 0)
-          → ((k : ℕ) → p (profileSeen n t k) ≡ g (bodyFrom t k)) → p (tableSeen n t np nt nn ne) ≡ sum (λ q. g (q .body)) (listed np (profileOfTable t))
-      counts p g plus view tapless same =
-          omega (
-            arith,
-            kept extra p (λ a i. omega (arith, plus a (extra i), view 0 (extraView + extraRegion .width * i))) ne named,
-            kept nameHalf p (λ a i. omega (arith, plus a (nameHalf i), view 0 (nameView + 2 * i))) (2 * nn) tapped,
-            kept tap p (λ a i. omega (arith, plus a (tap i), tapless (entry tapRegion i))) nt profiled,
-            sum-seen profile p plus (λ q. g (q .body)) (profileOfTable t) (λ i. same (entry profileRegion i)) np (viewSeen (fixedOctets nt nn ne) n t 0),
-            view (fixedOctets nt nn ne) 0,
-          )
+    abbrev ne : ℕ
+    ne = min (extrasUsed t) (extraRegion .size)
 
-      pub seen-octets : tableSeen n t np nt nn ne .octets
-          ≡ 8 + getD t 1 0 + sum entrySize (listed np (profileOfTable t)) + sum tapSize (listed nt (tapOfTable t)) + sum nameSize (listed nn (nameOfTable t)) + sum extraSize (listed ne (extraOfTable t))
-      seen-octets =
-          omega (
-            arith,
-            sum-seen extra (λ s. s .octets) (λ a b. refl) (λ x. x .«data» .len) (extraOfTable t) (λ i. omega (arith, ap (λ (v : View). v .len) (extra-view t i))) ne named,
-            sum-fixed 5 (λ x. x .«data» .len) (extraOfTable t) ne,
-            sum-seen nameHalf (λ s. s .octets) (λ a b. refl) (λ v. v .len) (nameViewsOf t) (λ i. omega arith) (2 * nn) tapped,
-            names-octets t nn,
-            sum-seen tap (λ s. s .octets) (λ a b. refl) (λ x. x .selector .len) (tapOfTable t) (λ i. refl) nt profiled,
-            sum-fixed 7 (λ x. x .selector .len) (tapOfTable t) nt,
-            sum-seen profile (λ s. s .octets) (λ a b. refl) entrySize (profileOfTable t) (λ i. by-sort (entry profileRegion i) (λ s. s .octets) bodyOctets refl refl refl) np (viewSeen (fixedOctets nt nn ne) n t 0),
-          )
+    -- what is seen before the entries of each table
+    abbrev front : Survey
+    front = withFixed (viewSeen n t 0) frontFixed
 
-      pub seen-fields : holds (tableSeen n t np nt nn ne .fields) ≡ (profilesExact t np && tapsExact t nt)
-      seen-fields =
-          kept extra (λ s. holds (s .fields)) (λ a i. or-more (a .fields) 0 refl refl ∙ and-true _) ne named
-          ∙ kept nameHalf (λ s. holds (s .fields)) (λ a i. or-more (a .fields) 0 refl refl ∙ and-true _) (2 * nn) tapped
-          ∙ fields-seen tap (λ i. tapExact t (entry tapRegion i)) (λ i. tap-fields (entry tapRegion i)) nt profiled
-          ∙ ap (λ (b : Bool). b && tapsExact t nt) (fields-seen profile (λ i. profileExact t (entry profileRegion i)) (λ i. profile-fields (entry profileRegion i)) np (viewSeen (fixedOctets nt nn ne) n t 0))
+    abbrev profiled : Survey
+    profiled = withFixed (allSeen profile np front) (tapFixed * nt)
 
-      pub seen-ends : holds (tableSeen n t np nt nn ne .ends)
-          ≡ passing (both (viewCheck n 0 (viewFrom t 0))
-          (both (each (entryViews n) (listed np (profileOfTable t))) (both (each (tapViews n) (listed nt (tapOfTable t))) (both (each (nameViews n) (listed nn (nameOfTable t))) (each (extraViews n) (listed ne (extraOfTable t)))))))
-      seen-ends =
-          (ends-seen extra (extraViews n) (extraOfTable t) (λ i. view-ends 43 (viewFrom t (extraView + extraRegion .width * i)) ∙ ap (λ (v : View). passing (viewCheck n 43 v)) (extra-view t i)) ne
-          (ends-seen nameHalf (viewCheck n 42) (nameViewsOf t) (λ i. view-ends 42 (nameViewsOf t i)) (2 * nn)
-          (ends-seen tap (tapViews n) (tapOfTable t) (λ i. view-ends 41 (tapOfTable t i .selector)) nt
-          (ends-seen profile (entryViews n) (profileOfTable t) (λ i. by-sort (entry profileRegion i) (λ s. holds (s .ends)) (λ b. passing (bodyViews n b)) (view-ends 40 _) (view-ends 40 _) (view-ends 40 _)) np
-          (record { told = view-ends 0 (viewFrom t 0) }))))) .told
-          ∙ ap passing (both-more _ _ _ ∙ both-more _ _ _ ∙ both-more _ _ _ ∙ ap (λ (c : Check). both (viewCheck n 0 (viewFrom t 0)) (both (each (entryViews n) (listed np (profileOfTable t))) (both (each (tapViews n) (listed nt (tapOfTable t))) (both c (each (extraViews n) (listed ne (extraOfTable t))))))) (names-views t n nn))
+    abbrev tapped : Survey
+    tapped = withFixed (allSeen tap nt profiled) (nameFixed * nn)
 
-    pub surveyed : Surveyed n t (wholeSeen n t)
+    abbrev named : Survey
+    named = withFixed (allSeen nameHalf (2 * nn) tapped) (extraFixed * ne)
+
+    -- only profiles count entries
+    counts : (p : Survey → ℕ) (g : TaggedProfile → ℕ) → ((a b : Survey) → p (added a b) ≡ p a + p b) → ((s : Survey) (k : ℕ) → p (withFixed s k) ≡ p s) → ((k : ℕ) → p (viewSeen n t k) ≡ 0) → ((k : ℕ) → p (tapSeen n t k) ≡ 0)
+        → ((k : ℕ) → p (profileSeen n t k) ≡ g (bodyFrom t k)) → p (tableSeen n t) ≡ sum (λ q. g (q .body)) (listed np (profileOfTable t))
+    counts p g plus fixed view tapless same =
+        omega (
+          arith,
+          kept extra p (λ a i. omega (arith, plus a (extra i), view (extraView + extraRegion .width * i))) ne named,
+          fixed (allSeen nameHalf (2 * nn) tapped) (extraFixed * ne),
+          kept nameHalf p (λ a i. omega (arith, plus a (nameHalf i), view (nameView + 2 * i))) (2 * nn) tapped,
+          fixed (allSeen tap nt profiled) (nameFixed * nn),
+          kept tap p (λ a i. omega (arith, plus a (tap i), tapless (entry tapRegion i))) nt profiled,
+          fixed (allSeen profile np front) (tapFixed * nt),
+          sum-seen profile p plus (λ q. g (q .body)) (profileOfTable t) (λ i. same (entry profileRegion i)) np front,
+          fixed (viewSeen n t 0) frontFixed,
+          view 0,
+        )
+
+    pub seen-octets : tableSeen n t .octets
+        ≡ 8 + getD t 1 0 + sum entrySize (listed np (profileOfTable t)) + sum tapSize (listed nt (tapOfTable t)) + sum nameSize (listed nn (nameOfTable t)) + sum extraSize (listed ne (extraOfTable t))
+    seen-octets =
+        omega (
+          arith,
+          sum-seen extra (λ s. s .octets) (λ a b. refl) (λ x. x .«data» .len) (extraOfTable t) (λ i. omega (arith, ap (λ (v : View). v .len) (extra-view t i))) ne named,
+          sum-fixed 5 (λ x. x .«data» .len) (extraOfTable t) ne,
+          sum-seen nameHalf (λ s. s .octets) (λ a b. refl) (λ v. v .len) (nameViewsOf t) (λ i. omega arith) (2 * nn) tapped,
+          names-octets t nn,
+          sum-seen tap (λ s. s .octets) (λ a b. refl) (λ x. x .selector .len) (tapOfTable t) (λ i. refl) nt profiled,
+          sum-fixed 7 (λ x. x .selector .len) (tapOfTable t) nt,
+          sum-seen profile (λ s. s .octets) (λ a b. refl) entrySize (profileOfTable t) (λ i. by-sort (entry profileRegion i) (λ s. s .octets) bodyOctets refl refl refl) np front,
+        )
+
+    pub seen-fields : holds (tableSeen n t .fields) ≡ (profilesExact t np && tapsExact t nt)
+    seen-fields =
+        kept extra (λ s. holds (s .fields)) (λ a i. or-more (a .fields) 0 refl refl ∙ and-true _) ne named
+        ∙ kept nameHalf (λ s. holds (s .fields)) (λ a i. or-more (a .fields) 0 refl refl ∙ and-true _) (2 * nn) tapped
+        ∙ fields-seen tap (λ i. tapExact t (entry tapRegion i)) (λ i. tap-fields (entry tapRegion i)) nt profiled
+        ∙ ap (λ (b : Bool). b && tapsExact t nt) (fields-seen profile (λ i. profileExact t (entry profileRegion i)) (λ i. profile-fields (entry profileRegion i)) np front)
+
+    pub seen-ends : holds (tableSeen n t .ends)
+        ≡ passing (both (viewCheck n 0 (viewFrom t 0))
+        (both (each (entryViews n) (listed np (profileOfTable t))) (both (each (tapViews n) (listed nt (tapOfTable t))) (both (each (nameViews n) (listed nn (nameOfTable t))) (each (extraViews n) (listed ne (extraOfTable t)))))))
+    seen-ends =
+        (ends-seen extra (extraViews n) (extraOfTable t) (λ i. view-ends 43 (viewFrom t (extraView + extraRegion .width * i)) ∙ ap (λ (v : View). passing (viewCheck n 43 v)) (extra-view t i)) ne
+        (fixed-ends (extraFixed * ne) (ends-seen nameHalf (viewCheck n 42) (nameViewsOf t) (λ i. view-ends 42 (nameViewsOf t i)) (2 * nn)
+        (fixed-ends (nameFixed * nn) (ends-seen tap (tapViews n) (tapOfTable t) (λ i. view-ends 41 (tapOfTable t i .selector)) nt
+        (fixed-ends (tapFixed * nt) (ends-seen profile (entryViews n) (profileOfTable t) (λ i. by-sort (entry profileRegion i) (λ s. holds (s .ends)) (λ b. passing (bodyViews n b)) (view-ends 40 _) (view-ends 40 _) (view-ends 40 _)) np
+        (fixed-ends frontFixed (record { told = view-ends 0 (viewFrom t 0) }))))))))) .told
+        ∙ ap passing (both-more _ _ _ ∙ both-more _ _ _ ∙ both-more _ _ _ ∙ ap (λ (c : Check). both (viewCheck n 0 (viewFrom t 0)) (both (each (entryViews n) (listed np (profileOfTable t))) (both (each (tapViews n) (listed nt (tapOfTable t))) (both c (each (extraViews n) (listed ne (extraOfTable t))))))) (names-views t n nn))
+
+    pub surveyed : Surveyed n t (tableSeen n t)
     unfolding exact viewsCheck tablesFrom
     surveyed =
-        let np = min (profilesUsed t) (profileRegion .size) in
-        let nt = min (tapsUsed t) (tapRegion .size) in
-        let nn = min (namesUsed t) (nameRegion .size) in
-        let ne = min (extrasUsed t) (extraRegion .size) in
         let ps = sym (used-profiles t) in
         let ts = sym (used-taps t) in
         let ns = sym (used-names t) in
         let es = sym (used-extras t) in
         record {
-          taps = counts np nt nn ne (λ s. s .taps) tapsIn (λ a b. refl) (λ f k. refl) (λ k. refl) (λ k. by-sort k (λ s. s .taps) tapsIn refl refl refl) ∙ ap (sum (λ p. tapsIn (p .body))) ps;
-          names = counts np nt nn ne (λ s. s .names) namesIn (λ a b. refl) (λ f k. refl) (λ k. refl) (λ k. by-sort k (λ s. s .names) namesIn refl refl refl) ∙ ap (sum (λ p. namesIn (p .body))) ps;
-          extras = counts np nt nn ne (λ s. s .extras) extrasIn (λ a b. refl) (λ f k. refl) (λ k. refl) (λ k. by-sort k (λ s. s .extras) extrasIn refl refl refl) ∙ ap (sum (λ p. extrasIn (p .body))) ps;
-          octets = seen-octets np nt nn ne ∙ (λ j. 8 + getD t 1 0 + sum entrySize (ps j) + sum tapSize (ts j) + sum nameSize (ns j) + sum extraSize (es j));
-          fields = seen-fields np nt nn ne;
-          ends = seen-ends np nt nn ne ∙ (λ j. passing (both (viewCheck n 0 (viewFrom t 0)) (both (each (entryViews n) (ps j)) (both (each (tapViews n) (ts j)) (both (each (nameViews n) (ns j)) (each (extraViews n) (es j)))))));
+          taps = counts (λ s. s .taps) tapsIn (λ a b. refl) (λ s k. refl) (λ k. refl) (λ k. refl) (λ k. by-sort k (λ s. s .taps) tapsIn refl refl refl) ∙ ap (sum (λ p. tapsIn (p .body))) ps;
+          names = counts (λ s. s .names) namesIn (λ a b. refl) (λ s k. refl) (λ k. refl) (λ k. refl) (λ k. by-sort k (λ s. s .names) namesIn refl refl refl) ∙ ap (sum (λ p. namesIn (p .body))) ps;
+          extras = counts (λ s. s .extras) extrasIn (λ a b. refl) (λ s k. refl) (λ k. refl) (λ k. refl) (λ k. by-sort k (λ s. s .extras) extrasIn refl refl refl) ∙ ap (sum (λ p. extrasIn (p .body))) ps;
+          octets = seen-octets ∙ (λ j. 8 + getD t 1 0 + sum entrySize (ps j) + sum tapSize (ts j) + sum nameSize (ns j) + sum extraSize (es j));
+          fields = seen-fields;
+          ends = seen-ends ∙ (λ j. passing (both (viewCheck n 0 (viewFrom t 0)) (both (each (entryViews n) (ps j)) (both (each (tapViews n) (ts j)) (both (each (nameViews n) (ns j)) (each (extraViews n) (es j)))))));
         }

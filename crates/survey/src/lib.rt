@@ -5,29 +5,49 @@
 ghost use mathlib.Core.Path.{_≡_};
 ghost use Prim.Native.Nat.{_+_, _*_, _≤_, _<_, min};
 ghost use lib.ListN.{length, getD};
-ghost use Rattle.table.specs.Flat.{profileRegion, tapRegion, nameRegion, extraRegion, tableSize, Lent};
-ghost use Rattle.table.specs.Region.{entry};
-ghost use Rattle.survey.specs.Exact.{exact};
-ghost use Rattle.survey.specs.Seen.{Bounded, Grown, biopAdds, liteAdds, opaqueAdds, tapAdds, viewAdds, added, biopSeen, liteSeen, opaqueSeen, profileSeen, tapSeen, viewSeen, allSeen, tableSeen, Surveyed};
+ghost use Rattle.table.specs.Flat.{profileRegion, tapRegion, tableSize, Lent};
+ghost use Rattle.survey.specs.Seen.{Bounded, Grown, biopAdds, liteAdds, opaqueAdds, tapAdds, viewAdds, added, biopSeen, liteSeen, opaqueSeen, profileSeen, tapSeen, viewSeen, allSeen, withFixed, profilesSeen, tapsSeen, namesSeen, extrasSeen, Surveyed};
 use reference::EXTRAS;
 use reference::MOST;
 use reference::NAMES;
 use reference::PROFILES;
 use reference::TAPS;
 use table::BIOP;
+use table::BIOP_EXTRAS;
+use table::BIOP_TAPS;
+use table::CONTEXT_AT;
+use table::CONTEXT_LEN;
+use table::DATA_AT;
 use table::EXTRA_WIDTH;
 use table::EXTRAS_AT;
 use table::EXTRAS_USED;
+use table::KEY_AT;
+use table::KEY_LEN;
+use table::LITE_EXTRAS;
+use table::LITE_NAMES;
 use table::LITE_OPTIONS;
+use table::MODULE;
 use table::NAMES_AT;
 use table::NAMES_USED;
+use table::OPAQUE_AT;
+use table::OPAQUE_LEN;
+use table::ORIGINAL_NETWORK;
 use table::PROFILE_WIDTH;
 use table::PROFILES_AT;
 use table::PROFILES_USED;
+use table::SELECTOR_AT;
+use table::SELECTOR_LEN;
+use table::SERVICE;
+use table::SPECIFIER;
+use table::TAP_ASSOCIATION;
+use table::TAP_USE;
 use table::TAP_WIDTH;
 use table::TAPS_AT;
 use table::TAPS_USED;
+use table::TRANSPORT_STREAM;
 use table::TYPE_ID;
+use table::VERSION_MAJOR;
+use table::VERSION_MINOR;
 use table::number_at;
 
 // Every mark below it holds.
@@ -35,28 +55,29 @@ pub const BOUND: usize = 65536;
 
 // The octets of an entry's fixed fields. Front: the type id's length and the profile count; tap: id, use, association, selector length; name: both
 // lengths; extra: tag and length.
-const FRONT_FIXED: usize = 8;
+const FRONT_FIXED: usize = 4 + 4;
 
-pub const TAP_FIXED: usize = 7;
+pub const TAP_FIXED: usize = 2 + 2 + 2 + 1;
 
-const NAME_FIXED: usize = 8;
+const NAME_FIXED: usize = 4 + 4;
 
-const EXTRA_FIXED: usize = 5;
+const EXTRA_FIXED: usize = 4 + 1;
 
-// A profile: its header; of BIOP also order octet, component count, both component headers and their fixed fields; of LiteOptions order octet,
-// component count, component header, address, name count and context length.
-const OPAQUE_FIXED: usize = 8;
+// A profile: its header; of BIOP also order octet and component count, ObjectLocation's header, carousel, module, versions and key length, and
+// ConnBinder's header and tap count; of LiteOptions order octet and component count, ServiceLocation's header, the address behind its length, name
+// count and context length.
+const OPAQUE_FIXED: usize = 4 + 4;
 
-const BIOP_FIXED: usize = 30;
+const BIOP_FIXED: usize = 8 + 2 + (5 + 4 + 2 + 2 + 1) + (5 + 1);
 
-const LITE_FIXED: usize = 47;
+const LITE_FIXED: usize = 8 + 2 + 8 + (1 + 20) + 4 + 4;
 
 // Where the views of names and extras begin. A name has two, one behind the other.
 pub const NAME_VIEWS_AT: usize = NAMES_AT;
 
 pub const VIEW_WIDTH: usize = 2;
 
-pub const EXTRA_VIEWS_AT: usize = EXTRAS_AT + 1;
+pub const EXTRA_VIEWS_AT: usize = EXTRAS_AT + DATA_AT;
 
 // How many taps, names and extras the profiles count, the octets, and the marks of fields and of ends.
 pub struct Survey {
@@ -97,7 +118,7 @@ fn add(a: Survey, b: Survey) -> Survey
 }
 
 // What an entry adds, told by its numbers, with a view at..at + len over a source of n octets: a BIOP profile, a LiteOptions profile, one that is
-// opaque or of an unknown sort, which does not fit, a tap, and a view by itself with the fixed fields before it.
+// opaque or of an unknown sort, which does not fit; and, without its fixed fields, a tap and a view by itself.
 fn biop_adds(
     module: u32,
     major: u32,
@@ -173,15 +194,15 @@ fn tap_adds(id: u32, uses: u32, association: u32, at: u32, len: u32, n: usize) -
     }
 }
 
-fn view_adds(fixed: usize, at: u32, len: u32, n: usize) -> Survey
-    requires { ⌜ (n ≤ 65535) × (fixed ≤ 1000) ⌝ }
-    ensures { λ r. ⌜ (r ≡ viewAdds fixed at len n) × Bounded 1 r ⌝ }
+fn view_adds(at: u32, len: u32, n: usize) -> Survey
+    requires { ⌜ n ≤ 65535 ⌝ }
+    ensures { λ r. ⌜ (r ≡ viewAdds at len n) × Bounded 1 r ⌝ }
 {
     Survey {
         taps: 0,
         names: 0,
         extras: 0,
-        octets: fixed + len as usize,
+        octets: len as usize,
         fields: 0,
         ends: at as usize + len as usize + (MOST - n),
     }
@@ -193,13 +214,13 @@ fn biop_seen(t: &[u32], at: usize, n: usize) -> Survey
     ensures { λ r. ⌜ (r ≡ biopSeen n (now (t .entry)) at) × Bounded 1 r ⌝ }
 {
     biop_adds(
-        t[at + 2],
-        t[at + 3],
-        t[at + 4],
-        t[at + 5],
-        t[at + 6],
-        t[at + 7],
-        t[at + 8],
+        t[at + MODULE],
+        t[at + VERSION_MAJOR],
+        t[at + VERSION_MINOR],
+        t[at + KEY_AT],
+        t[at + KEY_LEN],
+        t[at + BIOP_TAPS],
+        t[at + BIOP_EXTRAS],
         n,
     )
 }
@@ -209,14 +230,14 @@ fn lite_seen(t: &[u32], at: usize, n: usize) -> Survey
     ensures { λ r. ⌜ (r ≡ liteSeen n (now (t .entry)) at) × Bounded 1 r ⌝ }
 {
     lite_adds(
-        t[at + 2],
-        t[at + 3],
-        t[at + 4],
-        t[at + 5],
-        t[at + 6],
-        t[at + 7],
-        t[at + 8],
-        t[at + 9],
+        t[at + SPECIFIER],
+        t[at + TRANSPORT_STREAM],
+        t[at + ORIGINAL_NETWORK],
+        t[at + SERVICE],
+        t[at + LITE_NAMES],
+        t[at + CONTEXT_AT],
+        t[at + CONTEXT_LEN],
+        t[at + LITE_EXTRAS],
         n,
     )
 }
@@ -225,21 +246,28 @@ fn opaque_seen(t: &[u32], at: usize, n: usize) -> Survey
     requires { ⌜ (at + profileRegion .width ≤ length (now t)) × (n ≤ 65535) ⌝ }
     ensures { λ r. ⌜ (r ≡ opaqueSeen n (now (t .entry)) at) × Bounded 1 r ⌝ }
 {
-    opaque_adds(t[at], t[at + 2], t[at + 3], n)
+    opaque_adds(t[at], t[at + OPAQUE_AT], t[at + OPAQUE_LEN], n)
 }
 
 fn tap_seen(t: &[u32], at: usize, n: usize) -> Survey
     requires { ⌜ (at + tapRegion .width ≤ length (now t)) × (n ≤ 65535) ⌝ }
     ensures { λ r. ⌜ (r ≡ tapSeen n (now (t .entry)) at) × Bounded 1 r ⌝ }
 {
-    tap_adds(t[at], t[at + 1], t[at + 2], t[at + 3], t[at + 4], n)
+    tap_adds(
+        t[at],
+        t[at + TAP_USE],
+        t[at + TAP_ASSOCIATION],
+        t[at + SELECTOR_AT],
+        t[at + SELECTOR_LEN],
+        n,
+    )
 }
 
-fn view_seen(t: &[u32], fixed: usize, at: usize, n: usize) -> Survey
-    requires { ⌜ (at + 2 ≤ length (now t)) × (n ≤ 65535) × (fixed ≤ 1000) ⌝ }
-    ensures { λ r. ⌜ (r ≡ viewSeen fixed n (now (t .entry)) at) × Bounded 1 r ⌝ }
+fn view_seen(t: &[u32], at: usize, n: usize) -> Survey
+    requires { ⌜ (at + 2 ≤ length (now t)) × (n ≤ 65535) ⌝ }
+    ensures { λ r. ⌜ (r ≡ viewSeen n (now (t .entry)) at) × Bounded 1 r ⌝ }
 {
-    view_adds(fixed, t[at], t[at + 1], n)
+    view_adds(t[at], t[at + 1], n)
 }
 
 fn profile_seen(t: &[u32], at: usize, n: usize) -> Survey
@@ -256,14 +284,53 @@ fn profile_seen(t: &[u32], at: usize, n: usize) -> Survey
     opaque_seen(t, at, n)
 }
 
-// The first `count` profiles, and taps, behind what was seen before.
-fn see_profiles(t: &[u32], count: usize, n: usize, before: Survey) -> Survey
-    requires { ⌜ Lent (now t) × (count ≤ profileRegion .size) × (n ≤ 65535) × Bounded 500 before ⌝ }
-    ensures { λ r. ⌜ (r ≡ allSeen (λ i. profileSeen n (now (t .entry)) (entry profileRegion i)) count before) × Grown 64 before r ⌝ }
+// The fixed fields of all entries of a table at once.
+fn with_fixed(s: Survey, octets: usize) -> Survey
+    requires { ⌜ Bounded 500 s × (octets ≤ 1000) ⌝ }
+    ensures { λ r. ⌜ (r ≡ withFixed s octets) × Grown 1 s r ⌝ }
+{
+    Survey {
+        taps: s.taps,
+        names: s.names,
+        extras: s.extras,
+        octets: s.octets + octets,
+        fields: s.fields,
+        ends: s.ends,
+    }
+}
+
+// The views that stand at first, first + width, ..
+fn see_views(
+    t: &[u32],
+    first: usize,
+    width: usize,
+    count: usize,
+    n: usize,
+    before: Survey,
+) -> Survey
+    requires { ⌜ Lent (now t) × (n ≤ 65535) × (count ≤ 64) × (first + width * count + 2 ≤ tableSize + width) × Bounded 501 before ⌝ }
+    ensures { λ r. ⌜ (r ≡ allSeen (λ i. viewSeen n (now (t .entry)) (first + width * i)) count before) × Grown 64 before r ⌝ }
 {
     let mut all = before;
     let mut i: usize = 0;
     while i < count {
+        let one = view_seen(t, first + width * i, n);
+        all = add(all, one);
+        i += 1;
+    }
+    all
+}
+
+// The used profiles, taps, names and extras, each behind what was seen before. A used count is read where its entries are, so that fewer numbers are
+// held at a time.
+fn see_profiles(t: &[u32], n: usize, before: Survey) -> Survey
+    requires { ⌜ Lent (now t) × (n ≤ 65535) × Bounded 500 before ⌝ }
+    ensures { λ r. ⌜ (r ≡ profilesSeen n (now (t .entry)) before) × Grown 65 before r ⌝ }
+{
+    let used = used_at(t, PROFILES_USED, PROFILES);
+    let mut all = before;
+    let mut i: usize = 0;
+    while i < used {
         let one = profile_seen(t, PROFILES_AT + PROFILE_WIDTH * i, n);
         all = add(all, one);
         i += 1;
@@ -271,13 +338,14 @@ fn see_profiles(t: &[u32], count: usize, n: usize, before: Survey) -> Survey
     all
 }
 
-fn see_taps(t: &[u32], count: usize, n: usize, before: Survey) -> Survey
-    requires { ⌜ Lent (now t) × (count ≤ tapRegion .size) × (n ≤ 65535) × Bounded 500 before ⌝ }
-    ensures { λ r. ⌜ (r ≡ allSeen (λ i. tapSeen n (now (t .entry)) (entry tapRegion i)) count before) × Grown 64 before r ⌝ }
+fn see_taps(t: &[u32], n: usize, before: Survey) -> Survey
+    requires { ⌜ Lent (now t) × (n ≤ 65535) × Bounded 500 before ⌝ }
+    ensures { λ r. ⌜ (r ≡ tapsSeen n (now (t .entry)) before) × Grown 65 before r ⌝ }
 {
-    let mut all = before;
+    let used = used_at(t, TAPS_USED, TAPS);
+    let mut all = with_fixed(before, TAP_FIXED * used);
     let mut i: usize = 0;
-    while i < count {
+    while i < used {
         let one = tap_seen(t, TAPS_AT + TAP_WIDTH * i, n);
         all = add(all, one);
         i += 1;
@@ -285,47 +353,22 @@ fn see_taps(t: &[u32], count: usize, n: usize, before: Survey) -> Survey
     all
 }
 
-// The views that stand at first, first + width, .., each with so many octets of fixed fields.
-fn see_views(
-    t: &[u32],
-    first: usize,
-    width: usize,
-    count: usize,
-    fixed: usize,
-    n: usize,
-    before: Survey,
-) -> Survey
-    requires { ⌜ Lent (now t) × (n ≤ 65535) × (fixed ≤ 1000) × (count ≤ 64) × (first + width * count + 2 ≤ tableSize + width) × Bounded 500 before ⌝ }
-    ensures { λ r. ⌜ (r ≡ allSeen (λ i. viewSeen fixed n (now (t .entry)) (first + width * i)) count before) × Grown 64 before r ⌝ }
+fn see_names(t: &[u32], n: usize, before: Survey) -> Survey
+    requires { ⌜ Lent (now t) × (n ≤ 65535) × Bounded 500 before ⌝ }
+    ensures { λ r. ⌜ (r ≡ namesSeen n (now (t .entry)) before) × Grown 65 before r ⌝ }
 {
-    let mut all = before;
-    let mut i: usize = 0;
-    while i < count {
-        let one = view_seen(t, fixed, first + width * i, n);
-        all = add(all, one);
-        i += 1;
-    }
-    all
+    let used = used_at(t, NAMES_USED, NAMES);
+    let all = with_fixed(before, NAME_FIXED * used);
+    see_views(t, NAME_VIEWS_AT, VIEW_WIDTH, 2 * used, n, all)
 }
 
-// So many entries of each table, behind the front.
-fn look_over(
-    t: &[u32],
-    profiles: usize,
-    taps: usize,
-    names: usize,
-    extras: usize,
-    n: usize,
-) -> Survey
-    requires { ⌜ Lent (now t) × (profiles ≤ profileRegion .size) × (taps ≤ tapRegion .size) × (names ≤ nameRegion .size) × (extras ≤ extraRegion .size) × (n ≤ 65535) ⌝ }
-    ensures { λ r. ⌜ r ≡ tableSeen n (now (t .entry)) profiles taps names extras ⌝ }
+fn see_extras(t: &[u32], n: usize, before: Survey) -> Survey
+    requires { ⌜ Lent (now t) × (n ≤ 65535) × Bounded 500 before ⌝ }
+    ensures { λ r. ⌜ r ≡ extrasSeen n (now (t .entry)) before ⌝ }
 {
-    let fixed = FRONT_FIXED + TAP_FIXED * taps + NAME_FIXED * names + EXTRA_FIXED * extras;
-    let a = view_seen(t, fixed, TYPE_ID, n);
-    let b = see_profiles(t, profiles, n, a);
-    let c = see_taps(t, taps, n, b);
-    let d = see_views(t, NAME_VIEWS_AT, VIEW_WIDTH, 2 * names, 0, n, c);
-    see_views(t, EXTRA_VIEWS_AT, EXTRA_WIDTH, extras, 0, n, d)
+    let used = used_at(t, EXTRAS_USED, EXTRAS);
+    let all = with_fixed(before, EXTRA_FIXED * used);
+    see_views(t, EXTRA_VIEWS_AT, EXTRA_WIDTH, used, n, all)
 }
 
 // The whole table over a source of n octets, of which no more than 65535 count.
@@ -333,18 +376,10 @@ pub fn survey_of(t: &[u32], n: usize) -> Survey
     requires { ⌜ Lent (now t) ⌝ }
     ensures { λ r. ⌜ Surveyed (min n 65535) (now (t .entry)) r ⌝ }
 {
-    let profiles = used_at(t, PROFILES_USED, PROFILES);
-    let taps = used_at(t, TAPS_USED, TAPS);
-    let names = used_at(t, NAMES_USED, NAMES);
-    let extras = used_at(t, EXTRAS_USED, EXTRAS);
-    look_over(t, profiles, taps, names, extras, least(n, MOST))
-}
-
-// Whether every number of a used entry fits its field, and no sort is unknown.
-pub fn is_exact(t: &[u32]) -> bool
-    requires { ⌜ Lent (now t) ⌝ }
-    ensures { λ r. ⌜ r ≡ exact (now (t .entry)) ⌝ }
-{
-    let s = survey_of(t, 0);
-    s.fields < BOUND
+    let most = least(n, MOST);
+    let front = with_fixed(view_seen(t, TYPE_ID, most), FRONT_FIXED);
+    let profiles = see_profiles(t, most, front);
+    let taps = see_taps(t, most, profiles);
+    let names = see_names(t, most, taps);
+    see_extras(t, most, names)
 }

@@ -1,4 +1,5 @@
 -- `survey::see_profiles` meets its contract. Assumes nothing.
+use borrow.Author.Needs.{needs}
 use Prim.Native.Nat.{_-_, _≤_}
 use native.Mathlib.Omega.{arith}
 use Rattle.table.specs.Flat.{profileRegion}
@@ -9,13 +10,16 @@ use Rattle.survey.proofs.see_profiles.Statement.{statement}
 use Rattle.survey.proofs.see_profiles.Tie as tie
 
 abbrev Inv-loop : tie.InvT-loop
-Inv-loop t count n all₀ i₀ all i = (i ≤ count) × Seeing (λ k. profileSeen n t (entry profileRegion k)) all₀ all i
+Inv-loop t n used all₀ i₀ all i = (i ≤ used) × (used ≤ profileRegion .size) × Seeing (λ k. profileSeen n t (entry profileRegion k)) all₀ all i
 
 abbrev μ-loop : tie.MeasureT-loop
-μ-loop t count n all₀ i₀ all i = count - i
+μ-loop t n used all₀ i₀ all i = used - i
+
+used-at-requires : tie.Need-used-at-requires Inv-loop μ-loop
+used-at-requires c κs = search needs
 
 loop-holds : tie.Need-loop-holds Inv-loop μ-loop
-loop-holds c = (omega arith, see-begin)
+loop-holds c = (omega arith, omega arith, see-begin)
 
 mul-profile-seen : tie.Need-mul-profile-seen Inv-loop μ-loop
 mul-profile-seen c = omega arith
@@ -27,7 +31,10 @@ profile-seen-requires : tie.Need-profile-seen-requires Inv-loop μ-loop
 profile-seen-requires c κs = (omega arith, omega arith)
 
 add-requires : tie.Need-add-requires Inv-loop μ-loop
-add-requires c κs = let l = c .before .before in (see-bounded (l .loop .inv .1) (omega arith) (l .before .before .pre .3), c .profile-seen .ensures .1)
+add-requires c κs =
+    let l = c .before .before in
+    let h = l .before .before .before .pre .2 in
+    (see-bounded (l .loop .inv .2) (omega arith) (omega arith, omega arith, omega arith, omega arith), c .profile-seen .ensures .1)
 
 add-i : tie.Need-add-i Inv-loop μ-loop
 add-i c = omega arith
@@ -38,12 +45,29 @@ loop-less c = omega arith
 loop-again : tie.Need-loop-again Inv-loop μ-loop
 loop-again c =
     let one = c .before .profile-seen .ensures in
-    (omega arith, see-turn (c .before .before .before .loop .inv .1) (one .0) (one .1) (c .add .ensures))
+    let h = c .before .before .before .loop .inv in
+    (omega arith, h .1, see-turn (h .2) (one .0) (one .1) (c .add .ensures))
 
 returns : tie.Need-returns Inv-loop μ-loop
-returns c = see-end (c .before .loop .inv .1) (omega arith) (omega arith)
+returns c =
+    let used = c .before .before .used-at .ensures in
+    let e = see-end (c .before .loop .inv .2) {n = c .before .before .used-at .result} (omega arith) (omega arith) in
+    let g = e .1 in
+    (cc, (omega arith, omega arith, omega arith, omega arith))
 
 pub see-profiles-spec : {M : Type 1} → statement M
 see-profiles-spec =
     tie.close
-    (tie.spec Inv-loop μ-loop loop-holds mul-profile-seen add-profile-seen profile-seen-requires add-requires add-i loop-less loop-again returns)
+    (tie.spec
+    Inv-loop
+    μ-loop
+    used-at-requires
+    loop-holds
+    mul-profile-seen
+    add-profile-seen
+    profile-seen-requires
+    add-requires
+    add-i
+    loop-less
+    loop-again
+    returns)

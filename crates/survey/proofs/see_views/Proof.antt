@@ -9,10 +9,10 @@ use Rattle.survey.proofs.see_views.Statement.{statement}
 use Rattle.survey.proofs.see_views.Tie as tie
 
 abbrev Inv-loop : tie.InvT-loop
-Inv-loop t first width count fixed n all₀ i₀ all i = (i ≤ count) × Seeing (λ k. viewSeen fixed n t (first + width * k)) all₀ all i
+Inv-loop t first width count n all₀ i₀ all i = (i ≤ count) × Seeing (λ k. viewSeen n t (first + width * k)) all₀ all i
 
 abbrev μ-loop : tie.MeasureT-loop
-μ-loop t first width count fixed n all₀ i₀ all i = count - i
+μ-loop t first width count n all₀ i₀ all i = count - i
 
 -- the view of a turn stands in the table
 inside : (k : tie.In-loop Inv-loop μ-loop) → let l = k .before in let a = l .before .before .args in a .first + a .width * l .loop .i + 2 ≤ tableSize
@@ -28,10 +28,10 @@ add-view-seen : tie.Need-add-view-seen Inv-loop μ-loop
 add-view-seen c = omega (arith, inside c)
 
 view-seen-requires : tie.Need-view-seen-requires Inv-loop μ-loop
-view-seen-requires c κs = (omega (arith, inside c), omega arith, omega arith)
+view-seen-requires c κs = (omega (arith, inside c), omega arith)
 
 add-requires : tie.Need-add-requires Inv-loop μ-loop
-add-requires c κs = let l = c .before .before in (see-bounded (l .loop .inv .1) (omega arith) (l .before .before .pre .5), c .view-seen .ensures .1)
+add-requires c κs = let l = c .before .before in (see-bounded (l .loop .inv .1) (omega arith) (l .before .before .pre .4), c .view-seen .ensures .1)
 
 add-i : tie.Need-add-i Inv-loop μ-loop
 add-i c = omega arith

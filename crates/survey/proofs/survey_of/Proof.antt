@@ -1,46 +1,60 @@
 -- `survey::survey_of` meets its contract. Assumes nothing.
 use borrow.Author.Needs.{needs}
-use Prim.Native.Nat.{min}
-use mathlib.Core.Path.{_≡_, sym, subst}
-use native.Mathlib.Nat.{min-le-right}
-use Rattle.survey.specs.Seen.{Surveyed}
-use Rattle.survey.proofs.Whole.{wholeSeen, surveyed}
+use Prim.Native.Nat.{ℕ}
+use mathlib.Core.Path.{_≡_, sym, ap, subst, _∙_}
+use native.Mathlib.Omega.{arith}
+use Rattle.survey.specs.declared.Survey.{Survey}
+use Rattle.survey.specs.ByTable.{frontFixed}
+use Rattle.survey.specs.Seen.{Surveyed, withFixed, profilesSeen, tapsSeen, namesSeen, extrasSeen, tableSeen}
+use Rattle.survey.proofs.Whole.{surveyed}
 use Rattle.survey.proofs.survey_of.Statement.{statement}
 use Rattle.survey.proofs.survey_of.Tie as tie
-
-used-at-requires : tie.Need-used-at-requires
-used-at-requires c κs = search needs
-
-used-at-requires-2 : tie.Need-used-at-requires-2
-used-at-requires-2 c κs = search needs
-
-used-at-requires-3 : tie.Need-used-at-requires-3
-used-at-requires-3 c κs = search needs
-
-used-at-requires-4 : tie.Need-used-at-requires-4
-used-at-requires-4 c κs = search needs
 
 least-requires : tie.Need-least-requires
 least-requires c κs = search needs
 
-look-over-requires : tie.Need-look-over-requires
-look-over-requires c κs = search needs
+view-seen-requires : tie.Need-view-seen-requires
+view-seen-requires c κs = search needs
+
+with-fixed-requires : tie.Need-with-fixed-requires
+with-fixed-requires c κs = search needs
+
+see-profiles-requires : tie.Need-see-profiles-requires
+see-profiles-requires c κs = search needs
+
+see-taps-requires : tie.Need-see-taps-requires
+see-taps-requires c κs = search needs
+
+see-names-requires : tie.Need-see-names-requires
+see-names-requires c κs = search needs
+
+see-extras-requires : tie.Need-see-extras-requires
+see-extras-requires c κs = search needs
 
 returns : tie.Need-returns
 returns c =
-    let a = c .before .before .before .before .before .before .before .args in
+    let names = c .before in
+    let taps = names .before in
+    let profiles = taps .before in
+    let front = profiles .before in
+    let view = front .before in
+    let few = view .before in
+    let a = few .before .before .args in
+    let n = few .least .result in
     let t = a .t .now in
-    let e : c .look-over .result ≡ wholeSeen (min (a .n) 65535) t = cc in
-    subst (Surveyed (min (a .n) 65535) t) (sym e) (surveyed (min (a .n) 65535) (min-le-right (a .n) 65535) t)
+    let upTo = names .see-names .ensures .0 ∙ ap (namesSeen n t) (taps .see-taps .ensures .0 ∙ ap (tapsSeen n t) (profiles .see-profiles .ensures .0 ∙ ap (profilesSeen n t) (front .with-fixed .ensures .0 ∙ ap (λ (s : Survey). withFixed s frontFixed) (view .view-seen .ensures .0)))) in
+    let e : c .see-extras .result ≡ tableSeen n t = c .see-extras .ensures ∙ ap (extrasSeen n t) upTo in
+    subst (λ (k : ℕ). Surveyed k t (c .see-extras .result)) (few .least .ensures) (subst (Surveyed n t) (sym e) (surveyed n (omega (arith, few .least .ensures)) t))
 
 pub survey-of-spec : {M : Type 1} → statement M
 survey-of-spec =
     tie.close
     (tie.spec
-    used-at-requires
-    used-at-requires-2
-    used-at-requires-3
-    used-at-requires-4
     least-requires
-    look-over-requires
+    view-seen-requires
+    with-fixed-requires
+    see-profiles-requires
+    see-taps-requires
+    see-names-requires
+    see-extras-requires
     returns)
