@@ -1,17 +1,14 @@
 -- The views of a table one by one, as they stand in it, against the checks of its used entries. Assumes nothing.
 use Prim.Native.Nat.{ℕ, zero, suc, _+_, _*_, min}
 use mathlib.Core.Path.{_≡_, refl, sym, ap, ap₂, _∙_}
-use mathlib.Core.Bool.{true}
 use mathlib.Core.List.{List}
-use native.Mathlib.Omega.{arith}
 use Rattle.reference.specs.declared.Check.{Check}
-use Rattle.reference.specs.declared.Check.the-variants.{Pass, Refuse}
 use Rattle.reference.specs.Checks.{both, each}
 use Rattle.reference.specs.Writer.{viewCheck, entryViews, tapViews, nameViews, extraViews, viewsCheck}
 use Rattle.table.specs.Flat.{viewFrom, tablesFrom, profileOfTable, tapOfTable, extraOfTable, profileRegion, tapRegion, nameRegion, extraRegion, profilesUsed, tapsUsed, namesUsed, extrasUsed}
 use Rattle.table.specs.Region.{listed}
 use Rattle.survey.specs.ByTable.{usedIn}
-use Rattle.survey.specs.Seen.{passing, nameView, extraView}
+use Rattle.survey.specs.Seen.{nameView, extraView}
 use Rattle.survey.proofs.Whole.{used-profiles, used-taps, used-names, used-extras, tap-view, extra-view, names-views}
 
 each-alike : {A B : Type 0} (c : A → Check) (d : B → Check) (v : ℕ → A) (e : ℕ → B) → ((i : ℕ) → c (v i) ≡ d (e i)) → (n : ℕ) → each c (listed n v) ≡ each d (listed n e)

@@ -1,6 +1,5 @@
 // The lines that the program `answers` prints, put into a lent slice: each function stores at `at` and answers the position after what it stored.
 // What each sort of answer is as text stands in specs/Lines.
-ghost use mathlib.Core.Path.{_≡_};
 ghost use Prim.Native.Nat.{_+_, _*_, _≤_};
 ghost use lib.ListN.{length};
 ghost use Rattle.text.specs.Written.{Written};

@@ -1,7 +1,7 @@
 // An object reference as tables over the caller's slice (document 01, "Tables"): the types that callers hold, the empty tables, the wire's
 // constants, and one constructor for each sort of refusal. What a reader must believe of them stands in specs/.
 ghost use mathlib.Core.Path.{_≡_};
-ghost use Prim.Native.Nat.{_+_, _≤_, _<_};
+ghost use Prim.Native.Nat.{_+_, _≤_};
 ghost use Rattle.reference.specs.Refusals.{refusal, cutAt, leftAt, longAt};
 ghost use Rattle.reference.specs.Tabled.{noTables};
 

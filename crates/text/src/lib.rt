@@ -1,6 +1,6 @@
 // Text in ASCII, put into a lent slice: each function stores at `at` and answers the position after what it stored. Text knows no reference.
 ghost use mathlib.Core.Path.{_≡_};
-ghost use mathlib.Core.List.{List, [], _∷_, _++_};
+ghost use mathlib.Core.List.{[], _∷_};
 ghost use Prim.Native.Nat.{_+_, _*_, _≤_, _<_};
 ghost use lib.ListN.{length};
 ghost use Rattle.octets.specs.Octets.{octets};

@@ -1,6 +1,6 @@
 // Runs the worked references P1 to P11 of document 01, and every case that it marks "Run", through the library, and prints each answer:
 // number, place, two figures, and octets consumed or written. What must come out stands in stdout, from document 01.
-ghost use Prim.Native.Nat.{_+_, _*_, _≤_};
+ghost use Prim.Native.Nat.{_+_, _≤_};
 ghost use lib.ListN.{length};
 use libc::STDOUT_FILENO;
 use octets::put8;

@@ -1,8 +1,7 @@
 // The parts of a reference's image, each from a value: a writer stores at `at` and answers the position after what it stored. What it needs of
 // its arguments the caller has checked.
-ghost use mathlib.Core.Path.{_≡_};
-ghost use mathlib.Core.List.{List, [], _∷_, _++_};
-ghost use Prim.Native.Nat.{_+_, _≤_, _<_};
+ghost use mathlib.Core.List.{_++_};
+ghost use Prim.Native.Nat.{_+_, _≤_};
 ghost use lib.ListN.{length};
 ghost use Rattle.octets.specs.Octets.{octets};
 ghost use Rattle.octets.specs.Put.{Put};

@@ -1,7 +1,6 @@
 -- `intake::fill_from` meets its contract. Each turn but the last adds an octet. Assumes nothing.
 use mathlib.Core.Path.{_≡_}
 use Prim.Native.Nat.{_≤_, _-_}
-use native.Mathlib.Omega.{arith}
 use lib.ListN.{length}
 use borrow.Author.Needs.{needs}
 use Rattle.intake.proofs.fill_from.Statement.{statement}
