@@ -44,3 +44,10 @@ fixed-bounded b s h g = (omega arith, omega arith, omega arith, omega arith)
 
 pub fixed-grown : (b s a : Survey) → Grown 1 b s → Grown 64 s a → Grown 65 b a
 fixed-grown b s a g h = (omega arith, omega arith, omega arith, omega arith)
+
+-- .. and where the loop goes by the place of entry i
+pub record SeeingAt (f : ℕ → Survey) (place : ℕ → ℕ) (count : ℕ) (s all : Survey) (at : ℕ) : Type 0 where
+  pub i : ℕ
+  pub here : at ≡ place i
+  pub few : i ≤ count
+  pub seeing : Seeing f s all i
