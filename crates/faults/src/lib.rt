@@ -14,7 +14,6 @@ ghost use Rattle.reference.specs.Writer.{tapSize, measured, usedCheck, sumCheck
 ghost use Rattle.table.specs.Flat.{viewFrom, tablesFrom, profileOfTable, profileRegion, tapRegion, extraRegion, tableSize, Lent, tapsUsed, extrasUsed};
 ghost use Rattle.table.specs.Region.{listed};
 ghost use Rattle.survey.specs.ByTable.{usedIn};
-ghost use Rattle.survey.specs.Exact.{exact};
 ghost use Rattle.survey.specs.Seen.{passing, Surveyed};
 ghost use Rattle.faults.specs.Short.{shortHere, Within};
 ghost use Rattle.faults.specs.Judges.{Judges};
@@ -261,17 +260,6 @@ pub fn judge(t: &[u32], n: usize) -> Judged
         }
     }
     Judged::Unsound(s)
-}
-
-// Whether every number of a used entry fits its field, and no sort is unknown.
-pub fn is_exact(t: &[u32]) -> bool
-    requires { ⌜ Lent (now t) ⌝ }
-    ensures { λ r. ⌜ r ≡ exact (now (t .entry)) ⌝ }
-{
-    match judge(t, 0) {
-        Judged::Sound(_) => true,
-        Judged::Unsound(s) => s.fields < BOUND,
-    }
 }
 
 // 2: whether a component's length fits one octet.

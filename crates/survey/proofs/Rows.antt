@@ -4,7 +4,9 @@ use mathlib.Core.Path.{_≡_, refl, sym, ap, ap₂, _∙_}
 use mathlib.Core.Bool.{Bool, _&&_, and-true, and-assoc}
 use mathlib.Core.List.{List, _∷_}
 use native.Mathlib.Nat.{suc-min-suc, min-eq-left, min-eq-right, mul-zero, mul-suc}
+use native.Mathlib.Numerals.{add-one}
 use native.Mathlib.Omega.{arith}
+use lib.Bits.{bitOr}
 use lib.ListN.{take}
 use Rattle.reference.specs.declared.Check.{Check}
 use Rattle.reference.specs.declared.Check.the-variants.{Pass, Refuse}
@@ -77,6 +79,17 @@ module _ {A B : Type 0} (v : ℕ → A) (e : ℕ → B) where
       ap (λ (k : ℕ). each c (listed k v)) two
       ∙ sym (ap (λ (x : Check). both x (c (v (suc (2 * n))))) (each-next c v (2 * n)) ∙ each-next c v (suc (2 * n)))
       ∙ both-more _ _ _ ∙ ap₂ both (each-pairs c d same n) (same n) ∙ each-next d e n
+
+-- ---- the marks of the entries before n, or'ed
+
+module _ (q : ℕ → Bool) where
+  pub marks-none : holds 0 ≡ every q 0
+  unfolding every
+  marks-none = refl
+
+  pub marks-more : (m k i : ℕ) → holds m ≡ every q i → holds k ≡ q i → holds (bitOr m k) ≡ every q (i + 1)
+  unfolding every
+  marks-more m k i e h = rw add-one (or-more m k e h)
 
 -- ---- what is seen of n entries behind s
 

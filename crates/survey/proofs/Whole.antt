@@ -98,7 +98,7 @@ module _ (n : ℕ) (few : n ≤ 65535) where
         go false true = b
         go false false = c
 
-    profile-fields : (k : ℕ) → holds (profileSeen n t k .fields) ≡ profileExact t k
+    pub profile-fields : (k : ℕ) → holds (profileSeen n t k .fields) ≡ profileExact t k
     unfolding profileSeen profileExact
     profile-fields k = go (eqb (getD t k 0) 1) (eqb (getD t k 0) 2)
       where
@@ -107,7 +107,7 @@ module _ (n : ℕ) (few : n ≤ 65535) where
         go false true = address-holds (getD t (k + 2) 0) (getD t (k + 3) 0) (getD t (k + 4) 0) (getD t (k + 5) 0)
         go false false = sort-holds (getD t k 0)
 
-    tap-fields : (k : ℕ) → holds (tapSeen n t k .fields) ≡ tapExact t k
+    pub tap-fields : (k : ℕ) → holds (tapSeen n t k .fields) ≡ tapExact t k
     tap-fields k = tap-holds (getD t k 0) (getD t (k + 1) 0) (getD t (k + 2) 0)
 
     -- ---- table by table

@@ -5,8 +5,9 @@
 ghost use mathlib.Core.Path.{_≡_};
 ghost use Prim.Native.Nat.{_+_, _*_, _≤_, _<_, min};
 ghost use lib.ListN.{length, getD};
-ghost use Rattle.table.specs.Flat.{profileRegion, tapRegion, tableSize, Lent};
-ghost use Rattle.survey.specs.Seen.{Bounded, Grown, biopAdds, liteAdds, opaqueAdds, tapAdds, viewAdds, added, biopSeen, liteSeen, opaqueSeen, profileSeen, tapSeen, viewSeen, allSeen, withFixed, profilesSeen, tapsSeen, namesSeen, extrasSeen, Surveyed};
+ghost use Rattle.table.specs.Flat.{profileRegion, tapRegion, tableSize, Lent, profilesUsed, tapsUsed};
+ghost use Rattle.survey.specs.Exact.{profilesExact, tapsExact, exact};
+ghost use Rattle.survey.specs.Seen.{holds, Bounded, Grown, biopAdds, liteAdds, opaqueAdds, tapAdds, viewAdds, added, biopSeen, liteSeen, opaqueSeen, profileSeen, tapSeen, viewSeen, allSeen, withFixed, profilesSeen, tapsSeen, namesSeen, extrasSeen, Surveyed};
 use reference::EXTRAS;
 use reference::MOST;
 use reference::NAMES;
@@ -384,4 +385,44 @@ pub fn survey_of(t: &[u32], n: usize) -> Survey
     let taps = see_taps(t, most, profiles);
     let names = see_names(t, most, taps);
     see_extras(t, most, names)
+}
+
+// The marks of the used profiles' fields, and of the used taps'.
+fn profile_marks(t: &[u32]) -> usize
+    requires { ⌜ Lent (now t) ⌝ }
+    ensures { λ r. ⌜ holds r ≡ profilesExact (now (t .entry)) (min (profilesUsed (now (t .entry))) (profileRegion .size)) ⌝ }
+{
+    let count = used_at(t, PROFILES_USED, PROFILES);
+    let mut fields: usize = 0;
+    let mut i: usize = 0;
+    while i < count {
+        let one = profile_seen(t, PROFILES_AT + PROFILE_WIDTH * i, 0);
+        fields = fields | one.fields;
+        i += 1;
+    }
+    fields
+}
+
+fn tap_marks(t: &[u32]) -> usize
+    requires { ⌜ Lent (now t) ⌝ }
+    ensures { λ r. ⌜ holds r ≡ tapsExact (now (t .entry)) (min (tapsUsed (now (t .entry))) (tapRegion .size)) ⌝ }
+{
+    let count = used_at(t, TAPS_USED, TAPS);
+    let mut fields: usize = 0;
+    let mut i: usize = 0;
+    while i < count {
+        let one = tap_seen(t, TAPS_AT + TAP_WIDTH * i, 0);
+        fields = fields | one.fields;
+        i += 1;
+    }
+    fields
+}
+
+// Whether every number of a used entry fits its field, and no sort is unknown. What asks no more than that asks it here: views are not looked at.
+pub fn is_exact(t: &[u32]) -> bool
+    requires { ⌜ Lent (now t) ⌝ }
+    ensures { λ r. ⌜ r ≡ exact (now (t .entry)) ⌝ }
+{
+    let marks = profile_marks(t) | tap_marks(t);
+    marks < BOUND
 }
