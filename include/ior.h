@@ -125,7 +125,9 @@ uint32_t ior_tap(uint32_t use, const uint8_t *selector, size_t n, uint32_t *pair
 /* The index of the first BIOP profile, in answer[4]; IOR_PROFILES (8) if there is none. Refused with 8, place 40, if more than 8 are used. */
 uint32_t ior_first_biop(const uint32_t *table, size_t table_len, uint64_t *answer, size_t answer_len);
 
-/* Whether an address of twenty octets bears the constants of a DVB address: 1 or 0. IOR_NOT_ASKED if it has another length. */
+/* Whether an address of twenty octets is a DVB address: 1 or 0. It is one if AFI (octet 0) and type (1) are 00, the specifier type (6) is 01, the specifier
+ * data (7 to 9) is DVB's own organisation number 00 01 5A and the last four (16 to 19) are FF; the ten other octets may be any. IOR_NOT_ASKED if it has
+ * another length. */
 uint32_t ior_dvb_address(const uint8_t *address, size_t n);
 
 /* ---- the name component with lengths of one octet */

@@ -110,9 +110,9 @@ fn first_biop(table: &Table) -> Result<Option<usize>, Refusal> {
     Ok(ior.profiles.iter().position(is_found))
 }
 
-/// Document 01's question of an address: the four constants.
+/// The question of an address, by documents 01 and 02: the four constants, and behind the specifier type DVB's organisation number.
 fn is_dvb_address(octets: &[u8; 20]) -> bool {
-    octets[..2] == [0, 0] && octets[6] == 1 && octets[16..] == [0xFF; 4]
+    octets[..2] == [0, 0] && octets[6] == 1 && octets[7..10] == [0x00, 0x01, 0x5A] && octets[16..] == [0xFF; 4]
 }
 
 const HEX: &[u8; 16] = b"0123456789abcdef";

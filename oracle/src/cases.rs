@@ -116,6 +116,10 @@ const CASES: &[Case] = &[
     ("kind of five octets", "kind src=7372670000", "00000000"),
     ("DVB address", "address src=0000_00000009_01_00015A_0003_0004_0005_FFFFFFFF", "yes"),
     ("another reserved field", "address src=0000_00000009_01_00015A_0003_0004_0005_FFFFFFFE", "no"),
+    ("another organisation", "address src=0000_00000009_01_00015B_0003_0004_0005_FFFFFFFF", "no"),
+    ("no organisation", "address src=0000_00000009_01_000000_0003_0004_0005_FFFFFFFF", "no"),
+    ("DVB's number with its octets shifted", "address src=0000_00000009_01_015A00_0003_0004_0005_FFFFFFFF", "no"),
+    ("the ten octets that don't matter", "address src=0000_FEDCBA98_01_00015A_7654_3210_0000_FFFFFFFF", "yes"),
 ];
 
 /// The expected line in full: octets repeated, groups joined, and the 36 empty selectors of 7 octets each from offset 45 on.

@@ -73,13 +73,15 @@ pub fn object_kind(type_id: &[u8]) -> ObjectKind {
     }
 }
 
-/// Whether twenty octets bear the constants of a DVB address.
+/// Whether twenty octets are a DVB address: AFI, type, specifier type and the reserved four are the standard ones, and the specifier data is DVB's own
+/// organisation number, 00 01 5A. The ten other octets may be any.
 ///
 /// ```
 /// let mut address = [0; 20];
-/// assert!(!ior::is_dvb_address(&address));
 /// address[6] = 1;
 /// address[16..].fill(0xFF);
+/// assert!(!ior::is_dvb_address(&address));
+/// address[7..10].copy_from_slice(&[0x00, 0x01, 0x5A]);
 /// assert!(ior::is_dvb_address(&address));
 /// ```
 pub fn is_dvb_address(address: &[u8; 20]) -> bool {

@@ -237,14 +237,25 @@ fn questions() {
     assert_eq!(object_kind(b"ste\0"), ObjectKind::StreamEvent);
     assert_eq!(object_kind(b"none"), ObjectKind::Unknown(*b"none"));
     assert_eq!(object_kind(b"dir"), ObjectKind::Unknown([0; 4]));
-    let mut address = [0u8; 20];
-    address[6] = 1;
-    address[16..].fill(0xFF);
-    for at in [0, 1, 6, 16, 19] {
-        assert!(is_dvb_address(&address));
-        address[at] ^= 4;
-        assert!(!is_dvb_address(&address));
-        address[at] ^= 4;
+}
+
+/// Each of the twenty octets changed to each other value: ten of them decide, and the other ten don't matter.
+#[test]
+fn dvb_addresses() {
+    let address = [0, 0, 0, 0, 0, 9, 1, 0x00, 0x01, 0x5A, 0, 3, 0, 4, 0, 5, 0xFF, 0xFF, 0xFF, 0xFF];
+    assert!(is_dvb_address(&address));
+    for at in 0..20 {
+        let matters = [0, 1, 6, 7, 8, 9, 16, 17, 18, 19].contains(&at);
+        for change in 1..=255 {
+            let mut changed = address;
+            changed[at] ^= change;
+            assert_eq!(is_dvb_address(&changed), !matters, "octet {at} is {}", changed[at]);
+        }
+    }
+    for specifier in [[0x01, 0x5A, 0x00], [0x5A, 0x01, 0x00], [0; 3], [0xFF; 3]] {
+        let mut changed = address;
+        changed[7..10].copy_from_slice(&specifier);
+        assert!(!is_dvb_address(&changed));
     }
 }
 

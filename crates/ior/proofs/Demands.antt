@@ -7,17 +7,18 @@ use mathlib.Core.Path.{_≡_, sym, ap, _∙_, subst}
 use mathlib.Core.Bool.{Bool}
 use mathlib.Core.List.{List, [], _∷_, map}
 use mathlib.Core.Logic.{_↔_}
-use lib.ListN.{length, take}
+use lib.ListN.{length, take, getD}
+use lib.Dec.{T}
 use Rattle.octets.specs.Octets.{Octets, Each}
 use Rattle.reference.specs.declared.Answer.{Answer as Told}
 use Rattle.reference.specs.declared.Answer.the-variants.{Count, Refused}
 use Rattle.reference.specs.declared.Reading.{Reading}
 use Rattle.reference.specs.declared.Refusal.{Refusal}
 use Rattle.reference.specs.declared.Tables.{Tables}
-use Rattle.reference.specs.Meaning.{Reference}
+use Rattle.reference.specs.Meaning.{Reference, Address}
 use Rattle.reference.specs.Layout.{Leads}
-use Rattle.reference.specs.Reader.{readLeading, readWhole, answered}
-use Rattle.reference.specs.Steps.{seen}
+use Rattle.reference.specs.Reader.{readLeading, readWhole, readAddress, answered}
+use Rattle.reference.specs.Steps.{seen, ok}
 use Rattle.reference.specs.Placed.{tablesOf}
 use Rattle.reference.specs.Tabled.{tabled, noTables, usedOf}
 use Rattle.reference.specs.Typed.{Typed, Unknown}
@@ -28,9 +29,10 @@ use Rattle.reference.proofs.Promised as promised
 use Rattle.reference.proofs.Written as writtenly
 use Rattle.reference.proofs.Measured as measuredly
 use Rattle.reference.proofs.Worked as worked-out
+use Rattle.reference.proofs.Addresses as addresses
 use Rattle.writing.specs.Writes.{Writes}
 use Rattle.reference.specs.declared.NameComponent.{NameComponent}
-use Rattle.reference.specs.Questions.{kindOf, tapNumbersOf, firstBiop, dvbAddress}
+use Rattle.reference.specs.Questions.{kindOf, tapNumbersOf, firstBiop, dvbAddress, DvbAddress, dvbOctets}
 use Rattle.reference.specs.Names.{readShortName, shortAt}
 use Rattle.reading.proofs.Determined as reading
 use Rattle.writing.proofs.Determined as writing
@@ -135,6 +137,22 @@ only-used-matter t t′ h s d r r′ e e′ w w′ =
 -- P1 to P11 of document 01: each question of the table is answered as 01 says.
 pub worked : map (λ q. Table.reply (q .0)) Table.cases ≡ map (λ q. q .1) Table.cases
 worked = worked-out.worked
+
+-- ---- the DVB address question (document 02, No. 5), of twenty octets `a`
+
+module _ (a : List ℕ) (o : Octets a) (twenty : length a ≡ 20) (r : Bool) (c : r ≡ dvbAddress a) where
+  -- Yes exactly if the address that is read of them has the four constants, and DVB's organisation number 00 01 5A as its specifier data.
+  pub dvb-exactly : (m : Address) → readAddress a 0 20 ≡ ok m 20 → T r ↔ DvbAddress m
+  dvb-exactly m e = subst (λ (x : Bool). T x ↔ DvbAddress m) (sym c) (addresses.dvb-exactly a o twenty m e)
+
+  -- Yes exactly if ten of them are these octets (`dvbOctets`): one of the ten changed gives no.
+  pub dvb-octets : T r ↔ Each (λ q. getD a (q .0) 0 ≡ q .1) dvbOctets
+  dvb-octets = subst (λ (x : Bool). T x ↔ Each (λ q. getD a (q .0) 0 ≡ q .1) dvbOctets) (sym c) (addresses.dvb-octets a o twenty)
+
+-- The answer doesn't depend on the ten other octets: addresses that agree in the ten that matter get the same one.
+pub dvb-only : (a b : List ℕ) → Octets a → Octets b → length a ≡ 20 → length b ≡ 20 → Each (λ q. getD a (q .0) 0 ≡ getD b (q .0) 0) dvbOctets
+    → (r r′ : Bool) → r ≡ dvbAddress a → r′ ≡ dvbAddress b → r ≡ r′
+dvb-only a b o p m n h r r′ c c′ = c ∙ addresses.dvb-only a b o p m n h ∙ sym c′
 
 -- ---- `determined`: each public call's contract determines the answer, and the output too. Any two that it allows are equal; where a lower crate has
 -- shown it, its theorem is cited.

@@ -140,7 +140,8 @@ pub fn first_biop(t: Tables) -> FirstBiop
     questions::first_biop(t)
 }
 
-// Whether twenty octets are a DVB address: AFI, type, specifier type and the reserved four are those of the kind.
+// Whether twenty octets are a DVB address: AFI, type, specifier type and the reserved four are those of the kind, and the specifier data is
+// DVB's own organisation number, 00 01 5A. The ten other octets may be any.
 pub fn is_dvb(a: AddressOctets) -> bool
     ensures { λ r. ⌜ r ≡ dvbAddress a ⌝ }
 {

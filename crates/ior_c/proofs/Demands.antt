@@ -4,18 +4,21 @@
 -- (`Octets`) and one of u32 numbers below 2^32 (`Words`) is what the language gives a caller; nothing else is asked. Assumes nothing.
 use Prim.Native.Nat.{ℕ, _≤_}
 use mathlib.Core.Path.{_≡_, refl, sym, ap, _∙_, subst}
-use mathlib.Core.Bool.{true}
+use mathlib.Core.Bool.{Bool, true, false}
 use mathlib.Core.Logic.{_≢_, _↔_}
 use mathlib.Core.List.{List, [], _∷_}
 use native.Mathlib.Omega.{arith}
 use lib.ListN.{length, take, getD, replicate}
+use lib.Dec.{T, eqb}
 use Rattle.octets.specs.Octets.{Octets, Each}
 use Rattle.reference.specs.declared.Answer.the-variants.{Count, Refused}
 use Rattle.reference.specs.declared.Refusal.{Refusal}
-use Rattle.reference.specs.Meaning.{Reference}
+use Rattle.reference.specs.Meaning.{Reference, Address}
 use Rattle.reference.specs.Layout.{Leads}
 use Rattle.reference.specs.Checks.{Among}
-use Rattle.reference.specs.Reader.{readLeading, readWhole, answered}
+use Rattle.reference.specs.Reader.{readLeading, readWhole, readAddress, answered}
+use Rattle.reference.specs.Steps.{ok}
+use Rattle.reference.specs.Questions.{dvbAddress, DvbAddress, dvbOctets}
 use Rattle.reference.specs.Used.{Used}
 use Rattle.reference.specs.Placed.{tablesOf}
 use Rattle.reference.specs.Tabled.{usedOf}
@@ -25,6 +28,8 @@ use Rattle.reference.specs.Promises.{taking, GivesBack, ReadsBack, PutInFront}
 use Rattle.reference.proofs.Accept.{exactly, whole}
 use Rattle.reference.proofs.Cases.{by-test, by-answer}
 use Rattle.reference.proofs.Numbers.{leading-numbers, whole-numbers}
+use Rattle.reference.proofs.Asked.{picks-first}
+use Rattle.reference.proofs.Addresses as addresses
 use Rattle.reference.proofs.Written.{output-reads-back, written-reads-whole, image-octets, output-octets}
 use Rattle.reference.proofs.Measured.{refused-writing-leaves-all, accepted-writing-puts}
 use Rattle.table.specs.Region.{Words}
@@ -35,7 +40,7 @@ use Rattle.survey.specs.Uncut.{Uncut}
 use Rattle.reading.specs.Lent.{ShowsInto}
 use Rattle.reading.proofs.Valued.{leading-good, whole-good}
 use Rattle.reading.proofs.Lent.{Taken, leading-taken, lent-read-back}
-use Rattle.ior_c.specs.Said.{numberOf, numbersOf, askable}
+use Rattle.ior_c.specs.Said.{numberOf, numbersOf, askable, truth}
 use Rattle.ior_c.specs.Calls.{IorRead, IorReadWhole, IorLength, IorWrite, IorKind, IorTap, IorFirstBiop, IorDvbAddress, IorNameRead, IorNameWrite}
 use Rattle.ior_c.specs.Promises.{SameLength, Day, Kept}
 use Rattle.ior_c.proofs.Calls.{asked-given, unasked-given, unasked-told, unaskable-exactly, tells-alike, gives-alike}
@@ -227,6 +232,32 @@ module _ (t s a : List ℕ) (r : ℕ) (b : List ℕ) (c : IorLength t s a r b) w
 -- room they are the octets, save the seven constants of each address; and the copy is accepted again with equal contents (specs/Promises: `Day`, `Kept`).
 pub through-the-day : (s : List ℕ) → Octets s → (d : Day s) → (m : Reference) × (Leads s m (length s)) × (Kept s d m)
 through-the-day s o d = day.kept s o d
+
+-- ---- ior_dvb_address (document 02, No. 5), of an array of twenty octets
+
+truth-one : (b : Bool) → (truth b ≡ 1) ↔ T b
+truth-one true = (λ e. tt, λ t. refl)
+truth-one false = (λ e. absurd (omega arith), λ t. absurd t)
+
+asked-truth : (l : List ℕ) (r : ℕ) → IorDvbAddress l r → length l ≡ 20 → r ≡ truth (dvbAddress l)
+asked-truth l r c twenty = c ∙ picks-first (eqb (length l) 20) (truth (dvbAddress l)) 255 (ap (λ (n : ℕ). eqb n 20) twenty)
+
+module _ (l : List ℕ) (o : Octets l) (twenty : length l ≡ 20) (r : ℕ) (c : IorDvbAddress l r) where
+  told : (r ≡ 1) ↔ T (dvbAddress l)
+  told = subst (λ (x : ℕ). (x ≡ 1) ↔ T (dvbAddress l)) (sym (asked-truth l r c twenty)) (truth-one (dvbAddress l))
+
+  -- The result is 1 exactly if the address that is read of them has the four constants, and DVB's organisation number 00 01 5A as its specifier data.
+  pub c-dvb-exactly : (m : Address) → readAddress l 0 20 ≡ ok m 20 → (r ≡ 1) ↔ DvbAddress m
+  c-dvb-exactly m e = let h = addresses.dvb-exactly l o twenty m e in (λ x. h .0 (told .0 x), λ x. told .1 (h .1 x))
+
+  -- It is 1 exactly if ten of them are these octets (`dvbOctets`): one of the ten changed gives 0.
+  pub c-dvb-octets : (r ≡ 1) ↔ Each (λ q. getD l (q .0) 0 ≡ q .1) dvbOctets
+  c-dvb-octets = let h = addresses.dvb-octets l o twenty in (λ x. h .0 (told .0 x), λ x. told .1 (h .1 x))
+
+-- The result doesn't depend on the ten other octets: addresses that agree in the ten that matter get the same one.
+pub c-dvb-only : (l m : List ℕ) → Octets l → Octets m → length l ≡ 20 → length m ≡ 20 → Each (λ q. getD l (q .0) 0 ≡ getD m (q .0) 0) dvbOctets
+    → (r r′ : ℕ) → IorDvbAddress l r → IorDvbAddress m r′ → r ≡ r′
+c-dvb-only l m o p x y h r r′ c c′ = asked-truth l r c x ∙ ap truth (addresses.dvb-only l m o p x y h) ∙ sym (asked-truth m r′ c′ y)
 
 -- ---- each contract determines the result, and what the call leaves in its arrays
 

@@ -1,21 +1,22 @@
--- What the question for the first BIOP profile answers, one equation for each case of the code. Assumes nothing.
+-- What the questions answer, for code to cite: the first BIOP profile, one equation for each case; and a DVB address, by its five fields. Assumes nothing.
 use Prim.Native.Nat.{ℕ, _+_, _-_, _<_, _≤_}
 use mathlib.Core.Path.{_≡_, sym, ap, _∙_}
-use mathlib.Core.Bool.{true, false}
+use mathlib.Core.Bool.{Bool, true, false, _&&_}
 use mathlib.Core.List.{List, _∷_}
 use native.Mathlib.Nat.{sub-zero}
 use native.Mathlib.Numerals.{add-one}
 use native.Mathlib.Omega.{arith}
 use borrow.Author.Tests.{le-leb, lt-leb}
+use lib.Dec.{eqb}
 use lib.ListN.{length, take, getD}
-use Rattle.octets.specs.Octets.{part}
+use Rattle.octets.specs.Octets.{part, be}
 use Rattle.reference.specs.declared.Profile.{Profile as Entry}
 use Rattle.reference.specs.declared.Tables.{Tables}
 use Rattle.reference.specs.Places.{place-profiles}
 use Rattle.reference.specs.Refusals.{refusal}
 use Rattle.reference.specs.Tabled.{noProfile}
 use Rattle.reference.specs.declared.FirstBiop.the-variants.{At, Nothing, Refused}
-use Rattle.reference.specs.Questions.{isBiop, firstFrom, firstBiop}
+use Rattle.reference.specs.Questions.{isBiop, firstFrom, firstBiop, dvbAddress}
 use Rattle.octets.proofs.Part.{part-cons}
 use Rattle.reference.proofs.Asked.{picks-first, picks-second}
 
@@ -53,3 +54,9 @@ module _ (l : List Entry) (n i : ℕ) where
         ap (firstFrom i) opens
         ∙ picks-second _ _ _ e
         ∙ ap (λ (j : ℕ). firstFrom j (part l (i + 1) (n - (i + 1)))) (sym (add-one i))
+
+-- AFI, type, specifier type, specifier data and the reserved four, as they stand, and an answer that tests them
+pub dvb-fields : (a : List ℕ) {f k p q z : ℕ} {r : Bool} → f ≡ be (part a 0 1) → k ≡ be (part a 1 1) → p ≡ be (part a 6 1) → q ≡ be (part a 7 3) → z ≡ be (part a 16 4)
+    → r ≡ (eqb f 0x00 && (eqb k 0x00 && (eqb p 0x01 && (eqb q 0x00015A && eqb z 0xFFFFFFFF)))) → r ≡ dvbAddress a
+unfolding dvbAddress
+dvb-fields a ef ek ep eq ez er = er ∙ rw (ef, ek, ep, eq, ez)

@@ -1,5 +1,6 @@
 // Questions about a reference's parts: an object's kind, a tap's two numbers, the first BIOP profile, and whether an address is DVB's.
 // Each contract says what the answer is in the terms of reference's specs/Questions.
+use octets::be24;
 use octets::be32;
 use octets::octet;
 use reference::FirstBiop;
@@ -115,15 +116,18 @@ pub fn first_biop(t: Tables) -> FirstBiop
     FirstBiop::Nothing
 }
 
-// Whether an address of twenty octets bears the four constants of its kind.
+// Whether an address of twenty octets bears the four constants of its kind, and DVB's organisation number as its specifier data.
 pub fn is_dvb(a: [u8; 20]) -> bool
     ensures { λ r. ⌜ r ≡ dvbAddress a ⌝ }
 {
     let afi = octet(&a, 0);
     let kind = octet(&a, 1);
     let specifier = octet(&a, 6);
+    let organisation = be24(&a, 7);
     let reserved = be32(&a, 16);
     (afi == NsapAddress::AFI)
         & ((kind == NsapAddress::NSAP_TYPE)
-            & ((specifier == NsapAddress::SPECIFIER_TYPE) & (reserved == NsapAddress::RESERVED)))
+            & ((specifier == NsapAddress::SPECIFIER_TYPE)
+                & ((organisation == NsapAddress::DVB_ORGANISATION)
+                    & (reserved == NsapAddress::RESERVED))))
 }

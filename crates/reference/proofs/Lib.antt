@@ -26,5 +26,6 @@ pub mod Promised
 pub mod Good
 pub mod Places
 pub mod Asked
+pub mod Addresses
 pub mod Names
 pub mod Worked

@@ -55,6 +55,9 @@ impl NsapAddress {
     pub const SPECIFIER_TYPE: u8 = 0x01;
 
     pub const RESERVED: u32 = 0xFFFFFFFF;
+
+    // DVB's own organisation number: the specifier data of a DVB address. A reading takes any, and a writing puts what is held.
+    pub const DVB_ORGANISATION: u32 = 0x00015A;
 }
 
 // A profile's taps, names and extras are the next so many of the tables. Opaque comes first: an unused entry is an opaque one.

@@ -1,9 +1,12 @@
 // Runs the worked references P1 to P11 of document 01, and every case that it marks "Run", through the library, and prints each answer:
-// number, place, two figures, and octets consumed or written. What must come out stands in stdout, from document 01.
-ghost use Prim.Native.Nat.{_+_, _≤_};
+// number, place, two figures, and octets consumed or written; then a DVB address with each octet at each other value. What must come out stands
+// in stdout, from documents 01 and 02.
+ghost use Prim.Native.Nat.{_+_, _<_, _≤_};
 ghost use lib.ListN.{length};
+use ior::AddressOctets;
 use libc::STDOUT_FILENO;
 use octets::put8;
+use octets::put16;
 use octets::put32;
 use reference::Answer;
 use reference::ObjectKind;
@@ -79,6 +82,28 @@ fn say_tap(name: &[u8], use_: u16, selector: &[u8]) {
             io::write_all(STDOUT_FILENO, b" neither\n");
         }
     }
+}
+
+// Carousel 9, specifier type 01 and data 00 01 5A, transport stream 3, network 4, service 5, and the reserved four.
+fn dvb_address() -> AddressOctets {
+    let mut a = [0u8; 20];
+    put32(&mut a, 2, 9);
+    put32(&mut a, 6, 0x0100015A);
+    put16(&mut a, 10, 3);
+    put16(&mut a, 12, 4);
+    put16(&mut a, 14, 5);
+    put32(&mut a, 16, 0xFFFFFFFF);
+    a
+}
+
+fn say_counted(at: usize, yes: u64, no: u64) {
+    io::write_all(STDOUT_FILENO, b"address octet");
+    say(at as u64);
+    io::write_all(STDOUT_FILENO, b" yes");
+    say(yes);
+    io::write_all(STDOUT_FILENO, b" no");
+    say(no);
+    io::write_all(STDOUT_FILENO, b"\n");
 }
 
 // Tables with one BIOP profile: a key and 36 taps, the last with a selector, or none.
@@ -224,6 +249,32 @@ fn reads_run() {
     reads_nine(b"nine of ten", 10);
 }
 
+// A DVB address with the octet at `at` changed to each of the 255 other values: how often it is one still, and how often it is none.
+fn asks_changed(at: usize)
+    requires { ⌜ at < 20 ⌝ }
+{
+    let mut yes: u64 = 0;
+    let mut no: u64 = 0;
+    let mut change: u8 = 0;
+    while change < 255 {
+        change += 1;
+        let mut a = dvb_address();
+        a[at] = a[at] ^ change;
+        if ior::is_dvb(a) {
+            yes += 1;
+        } else {
+            no += 1;
+        }
+    }
+    say_counted(at, yes, no);
+}
+
+fn asks_addresses() {
+    for at in 0..20 {
+        asks_changed(at);
+    }
+}
+
 fn main() {
     reads_worked();
     taps_worked();
@@ -233,4 +284,5 @@ fn main() {
     writes(b"selector of 3", one_profile(0, 36, 3), 36);
     writes(b"key 246", one_profile(246, 0, 0), 22);
     writes(b"key 247", one_profile(247, 0, 0), 22);
+    asks_addresses();
 }

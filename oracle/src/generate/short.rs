@@ -90,17 +90,21 @@ pub fn write_name(random: &mut Random) -> Request {
     Request::WriteName { id, kind, room, source }
 }
 
+/// The ten octets that matter are those of a DVB address, but for one of the twenty that is changed, or other specifier data.
 pub fn address(random: &mut Random) -> Request {
     let mut octets = ADDRESS;
     if random.one_in(2) {
         octets = random.octets(20).try_into().expect("twenty octets");
-        for at in [0, 1, 6, 16, 17, 18, 19] {
+        for at in [0, 1, 6, 7, 8, 9, 16, 17, 18, 19] {
             octets[at] = ADDRESS[at];
         }
     }
     if random.one_in(2) {
         let at = random.below(20);
         octets[at] ^= random.pick(&[1, 0x80, 0xFF]);
+    } else if random.one_in(4) {
+        let specifier = random.pick(&[[0x01, 0x5A, 0x00], [0x5A, 0x01, 0x00], [0x00, 0x5A, 0x01], [0; 3], [0xFF; 3]]);
+        octets[7..10].copy_from_slice(&specifier);
     }
     Request::Address { octets }
 }

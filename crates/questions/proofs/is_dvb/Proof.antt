@@ -1,6 +1,6 @@
--- `questions::is_dvb` meets its contract. The four constants where they stand. Assumes nothing.
-use Rattle.reference.specs.Questions.{dvbAddress}
+-- `questions::is_dvb` meets its contract. The four constants and the organisation number where they stand. Assumes nothing.
 use borrow.Author.Needs.{needs}
+use Rattle.questions.proofs.Cases.{dvb-fields}
 use Rattle.questions.proofs.is_dvb.Statement.{statement}
 use Rattle.questions.proofs.is_dvb.Tie as tie
 
@@ -22,6 +22,12 @@ slice-aggregate-octet-3 c = search needs
 octet-requires-3 : tie.Need-octet-requires-3
 octet-requires-3 c κs = search needs
 
+slice-aggregate-be24 : tie.Need-slice-aggregate-be24
+slice-aggregate-be24 c = search needs
+
+be24-requires : tie.Need-be24-requires
+be24-requires c κs = search needs
+
 slice-aggregate-be32 : tie.Need-slice-aggregate-be32
 slice-aggregate-be32 c = search needs
 
@@ -29,11 +35,7 @@ be32-requires : tie.Need-be32-requires
 be32-requires c κs = search needs
 
 returns : tie.Need-returns
-unfolding dvbAddress
-returns c =
-    let p = c .before .before in
-    let k = p .before .before in
-    rw (c .be32 .ensures, p .octet3 .ensures, k .octet2 .ensures, k .before .before .octet .ensures)
+returns c = search dvb-fields
 
 pub is-dvb-spec : {M : Type 1} → statement M
 is-dvb-spec =
@@ -45,6 +47,8 @@ is-dvb-spec =
     octet-requires-2
     slice-aggregate-octet-3
     octet-requires-3
+    slice-aggregate-be24
+    be24-requires
     slice-aggregate-be32
     be32-requires
     returns)
