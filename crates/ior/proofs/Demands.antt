@@ -141,7 +141,8 @@ worked = worked-out.worked
 -- ---- the DVB address question (document 02, No. 5), of twenty octets `a`
 
 module _ (a : List ℕ) (o : Octets a) (twenty : length a ≡ 20) (r : Bool) (c : r ≡ dvbAddress a) where
-  -- Yes exactly if the address that is read of them has the four constants, and DVB's organisation number 00 01 5A as its specifier data.
+  -- Yes exactly if the address that is read of them (there always is one: `address-read`) has the four constants, and DVB's organisation number 00 01 5A as
+  -- its specifier data.
   pub dvb-exactly : (m : Address) → readAddress a 0 20 ≡ ok m 20 → T r ↔ DvbAddress m
   dvb-exactly m e = subst (λ (x : Bool). T x ↔ DvbAddress m) (sym c) (addresses.dvb-exactly a o twenty m e)
 

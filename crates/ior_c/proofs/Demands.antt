@@ -246,7 +246,8 @@ module _ (l : List ℕ) (o : Octets l) (twenty : length l ≡ 20) (r : ℕ) (c :
   told : (r ≡ 1) ↔ T (dvbAddress l)
   told = subst (λ (x : ℕ). (x ≡ 1) ↔ T (dvbAddress l)) (sym (asked-truth l r c twenty)) (truth-one (dvbAddress l))
 
-  -- The result is 1 exactly if the address that is read of them has the four constants, and DVB's organisation number 00 01 5A as its specifier data.
+  -- The result is 1 exactly if the address that is read of them (there always is one: `address-read`) has the four constants, and DVB's organisation number
+  -- 00 01 5A as its specifier data.
   pub c-dvb-exactly : (m : Address) → readAddress l 0 20 ≡ ok m 20 → (r ≡ 1) ↔ DvbAddress m
   c-dvb-exactly m e = let h = addresses.dvb-exactly l o twenty m e in (λ x. h .0 (told .0 x), λ x. told .1 (h .1 x))
 

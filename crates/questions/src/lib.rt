@@ -122,12 +122,12 @@ pub fn is_dvb(a: [u8; 20]) -> bool
 {
     let afi = octet(&a, 0);
     let kind = octet(&a, 1);
-    let specifier = octet(&a, 6);
+    let specifier_type = octet(&a, 6);
     let organisation = be24(&a, 7);
     let reserved = be32(&a, 16);
     (afi == NsapAddress::AFI)
         & ((kind == NsapAddress::NSAP_TYPE)
-            & ((specifier == NsapAddress::SPECIFIER_TYPE)
+            & ((specifier_type == NsapAddress::SPECIFIER_TYPE)
                 & ((organisation == NsapAddress::DVB_ORGANISATION)
                     & (reserved == NsapAddress::RESERVED))))
 }

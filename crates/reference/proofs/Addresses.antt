@@ -70,6 +70,11 @@ tests : (d : List ℕ)
 unfolding dvbAddress
 tests d = five (says d 0 1 0x00) (says d 1 1 0x00) (says d 6 1 0x01) (says d 7 3 0x00015A) (says d 16 4 0xFFFFFFFF)
 
+-- Twenty octets always are read as an address, whatever they are: `dvb-exactly` speaks of every such list.
+pub address-read : (d : List ℕ) → (a : Address) × (readAddress d 0 20 ≡ ok a 20)
+unfolding readAddress number done
+address-read d = (_, need-pass d 0 20 20 place-address _ (lit≤ tt))
+
 module _ (d : List ℕ) (o : Octets d) (twenty : length d ≡ 20) where
   organisation : T (says d 7 3 0x00015A) ↔ Standing d 7 (0x00 ∷ 0x01 ∷ 0x5A ∷ [])
   unfolding octets
