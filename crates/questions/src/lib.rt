@@ -14,38 +14,49 @@ use reference::TaggedProfile;
 use reference::TapNumbers;
 use reference::wrong;
 ghost use mathlib.Core.Path.{_≡_};
-ghost use Rattle.reference.specs.Questions.{isBiop, kindNumbered, kindOf, tapNumbersOf, firstBiop, dvbAddress};
+ghost use mathlib.Core.List.{[]};
+ghost use Prim.Native.Nat.{_<_};
+ghost use lib.Dec.{eqb};
+ghost use lib.ListN.{getD};
+ghost use Rattle.octets.specs.Octets.{be};
+ghost use Rattle.reference.specs.Questions.{isBiop, kinds, kindNumbered, kindOf, tapNumbersOf, firstBiop, dvbAddress};
 
-// The five kinds: three letters and a zero octet.
-const DIR: u32 = 0x64697200;
-
-const FIL: u32 = 0x66696C00;
-
-const STR: u32 = 0x73747200;
-
-const SRG: u32 = 0x73726700;
-
-const STE: u32 = 0x73746500;
+// The five kinds, in the order in which they are searched: three letters and a zero octet.
+const KINDS: [[u8; 4]; 5] = [*b"dir\0", *b"fil\0", *b"str\0", *b"srg\0", *b"ste\0"];
 
 const USE_DELIVERY: u16 = 0x0016;
 
+// The kind that a row of KINDS names.
+fn kind_at(row: usize) -> ObjectKind
+    requires { ⌜ row < 5 ⌝ }
+    ensures { λ r. ⌜ r ≡ getD kinds row ([], ObjectKind.Unknown 0) .1 ⌝ }
+{
+    match row {
+        0 => ObjectKind::Directory,
+        1 => ObjectKind::File,
+        2 => ObjectKind::Stream,
+        3 => ObjectKind::ServiceGateway,
+        _ => ObjectKind::StreamEvent,
+    }
+}
+
+// Whether a row's four octets are those of n: compared at once, as the number that they write.
+fn row_is(row: [u8; 4], n: u32) -> bool
+    ensures { λ r. ⌜ r ≡ eqb n (be row) ⌝ }
+{
+    n == be32(&row, 0)
+}
+
+// The kind of the first row that has the octets of n, or unknown with it.
 fn kind_numbered(n: u32) -> ObjectKind
     ensures { λ r. ⌜ r ≡ kindNumbered n ⌝ }
 {
-    if n == DIR {
-        return ObjectKind::Directory;
-    }
-    if n == FIL {
-        return ObjectKind::File;
-    }
-    if n == STR {
-        return ObjectKind::Stream;
-    }
-    if n == SRG {
-        return ObjectKind::ServiceGateway;
-    }
-    if n == STE {
-        return ObjectKind::StreamEvent;
+    let mut i: usize = 0;
+    while i < KINDS.len() {
+        if row_is(KINDS[i], n) {
+            return kind_at(i);
+        }
+        i += 1;
     }
     ObjectKind::Unknown(n)
 }

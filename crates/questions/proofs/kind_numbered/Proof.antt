@@ -1,37 +1,70 @@
--- `questions::kind_numbered` meets its contract. Each test names its kind; what passes all five is unknown. Assumes nothing.
-use mathlib.Core.Path.{sym, ap}
-use borrow.Author.Tests.{ne-eqb}
-use Rattle.reference.specs.Questions.{kindNumbered}
+-- `questions::kind_numbered` meets its contract. The invariant: among the rows that are left the number has the same kind as among all five. Assumes nothing.
+use Prim.Native.Nat.{_≤_, _-_}
+use mathlib.Core.Path.{_≡_, refl, sym, _∙_}
+use native.Mathlib.Omega.{arith}
+use borrow.Author.Needs.{needs}
+use lib.ListN.{drop}
+use Rattle.reference.specs.Questions.{kinds, kindAmong, kindNumbered}
+use Rattle.questions.proofs.Cases.{kind-here, kind-later}
 use Rattle.questions.proofs.kind_numbered.Statement.{statement}
 use Rattle.questions.proofs.kind_numbered.Tie as tie
 
-returns : tie.Need-returns
-unfolding kindNumbered
-returns c = ap kindNumbered (sym (c .if1 .taken))
+abbrev Inv-loop : tie.InvT-loop
+Inv-loop n i₀ i = (i ≤ 5) × (kindAmong (drop i kinds) n ≡ kindNumbered n)
 
-returns-2 : tie.Need-returns-2
-unfolding kindNumbered
-returns-2 c = ap kindNumbered (sym (c .if2 .taken))
+abbrev μ-loop : tie.MeasureT-loop
+μ-loop n i₀ i = 5 - i
 
-returns-3 : tie.Need-returns-3
+loop-holds : tie.Need-loop-holds Inv-loop μ-loop
 unfolding kindNumbered
-returns-3 c = ap kindNumbered (sym (c .if3 .taken))
+loop-holds c = (omega arith, refl)
 
-returns-4 : tie.Need-returns-4
-unfolding kindNumbered
-returns-4 c = ap kindNumbered (sym (c .if4 .taken))
+mul-row-is : tie.Need-mul-row-is Inv-loop μ-loop
+mul-row-is c = search needs
 
-returns-5 : tie.Need-returns-5
-unfolding kindNumbered
-returns-5 c = ap kindNumbered (sym (c .if5 .taken))
+array-copy-out-row-is : tie.Need-array-copy-out-row-is Inv-loop μ-loop
+array-copy-out-row-is c = search needs
 
-returns-6 : tie.Need-returns-6
-unfolding kindNumbered
-returns-6 c =
-    let v = c .before in
-    let u = v .before in
-    let w = u .before in
-    rw (ne-eqb _ _ (w .before .if1 .left), ne-eqb _ _ (w .if2 .left), ne-eqb _ _ (u .if3 .left), ne-eqb _ _ (v .if4 .left), ne-eqb _ _ (c .if5 .left))
+row-is-requires : tie.Need-row-is-requires Inv-loop μ-loop
+row-is-requires c κs = search needs
+
+kind-at-requires : tie.Need-kind-at-requires Inv-loop μ-loop
+kind-at-requires c κs = search needs
+
+returns : tie.Need-returns Inv-loop μ-loop
+returns c =
+    let b = c .before .before in
+    let l = b .before .before .before in
+    c .kind-at .ensures ∙ sym (kind-here kinds (l .loop .i) _ (omega arith) (sym (b .row-is .ensures) ∙ c .before .if1 .taken)) ∙ l .loop .inv .1
+
+add-i : tie.Need-add-i Inv-loop μ-loop
+add-i c = search needs
+
+loop-less : tie.Need-loop-less Inv-loop μ-loop
+loop-less c = search needs
+
+loop-again : tie.Need-loop-again Inv-loop μ-loop
+loop-again c =
+    let b = c .before in
+    let l = b .before .before .before in
+    (omega arith, sym (kind-later kinds (l .loop .i) _ (omega arith) (sym (b .row-is .ensures) ∙ c .if1 .left)) ∙ l .loop .inv .1)
+
+returns-2 : tie.Need-returns-2 Inv-loop μ-loop
+returns-2 c = let e : c .before .loop .i ≡ 5 = omega arith in rw e at (c .before .loop .inv .1)
 
 pub kind-numbered-spec : {M : Type 1} → statement M
-kind-numbered-spec = tie.close (tie.spec returns returns-2 returns-3 returns-4 returns-5 returns-6)
+kind-numbered-spec =
+    tie.close
+    (tie.spec
+    Inv-loop
+    μ-loop
+    loop-holds
+    mul-row-is
+    array-copy-out-row-is
+    row-is-requires
+    kind-at-requires
+    returns
+    add-i
+    loop-less
+    loop-again
+    returns-2)
