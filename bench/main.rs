@@ -2,7 +2,7 @@
 //! ratio; with a file's name, writes a plot of time against octets there.
 
 use broadcast_common::Serialize;
-use dvb_si::carousel::biop::ior::Ior;
+use dvb_si::carousel::biop::ior::{Ior, ObjectKind};
 use std::fmt::Write as _;
 use std::hint::black_box;
 use std::time::Instant;
@@ -24,6 +24,7 @@ extern "C" {
         answer: *mut u64,
         answers: usize,
     ) -> u32;
+    fn ior_kind(type_id: *const u8, n: usize, kind: *mut u32, kinds: usize) -> u32;
 }
 
 fn read(s: &[u8], table: &mut [u32; TABLE], answer: &mut [u64; 5]) -> u32 {
@@ -36,6 +37,10 @@ fn length(table: &[u32; TABLE], s: &[u8], answer: &mut [u64; 5]) -> u32 {
 
 fn write(table: &[u32; TABLE], s: &[u8], out: &mut [u8], answer: &mut [u64; 5]) -> u32 {
     unsafe { ior_write(table.as_ptr(), TABLE, s.as_ptr(), s.len(), out.as_mut_ptr(), out.len(), answer.as_mut_ptr(), 5) }
+}
+
+fn kind(type_id: &[u8], number: &mut [u32; 1]) -> u32 {
+    unsafe { ior_kind(type_id.as_ptr(), type_id.len(), number.as_mut_ptr(), 1) }
 }
 
 // ---- references
@@ -218,6 +223,41 @@ fn times(references: &[Vec<u8>]) -> Times {
     Times { read, write, length }
 }
 
+/// The kind alone, of type ids drawn from the five and an unknown one.
+fn kinds(count: usize) -> (f64, f64) {
+    let mut random = Random(1);
+    let type_ids: [&[u8]; 6] = [b"dir\0", b"fil\0", b"str\0", b"srg\0", b"ste\0", b"logo"];
+    let values: Vec<Ior> =
+        (0..count).map(|_| Ior { type_id: type_ids[random.octet() as usize % 6], profiles: Vec::new() }).collect();
+    let mut number = [0u32; 1];
+    for v in &values {
+        let theirs = match v.object_kind() {
+            ObjectKind::Directory => 0,
+            ObjectKind::File => 1,
+            ObjectKind::Stream => 2,
+            ObjectKind::ServiceGateway => 3,
+            ObjectKind::StreamEvent => 4,
+            _ => 5,
+        };
+        assert_eq!(kind(v.type_id, &mut number), theirs);
+        assert_eq!(number[0].to_be_bytes()[..], *v.type_id);
+    }
+    best(
+        count,
+        (250_000 / count).max(1),
+        &mut || {
+            values.iter().for_each(|v| {
+                black_box(kind(black_box(v.type_id), &mut number));
+            })
+        },
+        &mut || {
+            values.iter().for_each(|v| {
+                black_box(black_box(v).object_kind());
+            })
+        },
+    )
+}
+
 /// Reading alone, of references that do not fit the tables.
 fn crowded(octets: &[u8]) -> (f64, f64) {
     let mut table = [0u32; TABLE];
@@ -309,6 +349,8 @@ fn main() {
         row(&format!("write, {name}"), octets, t.write);
         row(&format!("length, {name}"), octets, t.length);
     }
+    row("kind, 64 type ids", 4, kinds(64));
+    row("kind, 2,000 type ids", 4, kinds(2000));
 
     let colours = ["#1b6ca8", "#e07b39", "#4f9d69", "#b33951"];
     let names = ["ours, read", "the Rust, read", "ours, write", "the Rust, write"];
