@@ -46,7 +46,7 @@ use reference::cut;
 use reference::left_over;
 use reference::too_long;
 use reference::view_of;
-use reference::wrong;
+use reference::wrong_value;
 use table::Counts;
 use table::put_biop;
 use table::put_tap;
@@ -152,7 +152,7 @@ fn read_component(d: &[u8], pos: usize, tag: u32, header: u8, spot: u8) -> Ended
     }
     let found = be32(d, pos);
     if found != tag {
-        return Ended::Not(wrong(3, spot));
+        return Ended::Not(wrong_value(3, spot, pos));
     }
     let len = octet(d, pos + 4) as usize;
     if end - data < len {

@@ -48,7 +48,7 @@ module _ (d : List ℕ) (stop extras : ℕ) where
   size-cut e h = simp (e, lt-ltb)
 
   module _ {n : ℕ} (size : n ≡ be (part d 10 1)) (one : 11 ≤ stop) where
-    pub size-wrong : {x : Refusal} → x ≡ wrongAt 4 place-address-size → n ≢ 20 → refused x ≡ told
+    pub size-wrong : {x : Refusal} → x ≡ wrongAt 4 place-address-size 10 → n ≢ 20 → refused x ≡ told
     unfolding readServiceHead need checked
     size-wrong e h = simp (e, ← size, le-ltb, ne-eqb)
 

@@ -46,7 +46,7 @@ use reference::cut;
 use reference::left_over;
 use reference::too_long;
 use reference::view_of;
-use reference::wrong;
+use reference::wrong_value;
 use table::Counts;
 use table::put_lite;
 use table::put_name;
@@ -210,7 +210,7 @@ fn read_service_head(d: &[u8], stop: usize, extras: usize) -> HeadRead
     let size = octet(d, SERVICE);
     if size != 20 {
         return HeadRead::Not {
-            why: wrong(4, PLACE_ADDRESS_SIZE),
+            why: wrong_value(4, PLACE_ADDRESS_SIZE, SERVICE),
         };
     }
     if stop < NAME_COUNT {
@@ -245,7 +245,7 @@ fn read_service_part(d: &[u8], extras: usize) -> HeadRead
     let tag = be32(d, TAG);
     if tag != TAG_SERVICE_LOCATION {
         return HeadRead::Not {
-            why: wrong(3, PLACE_SERVICE_TAG),
+            why: wrong_value(3, PLACE_SERVICE_TAG, TAG),
         };
     }
     let len = be32(d, LENGTH) as usize;

@@ -21,7 +21,7 @@ module _ (w tag header spot : ℕ) (d : List ℕ) (pos end : ℕ) where
   header-cut e h = simp (e, lt-ltb)
 
   module _ {t : ℕ} (found : t ≡ be (part d pos 4)) (room : pos + (4 + w) ≤ end) where
-    pub tag-wrong : {x : Refusal} → x ≡ wrongAt 3 spot → t ≢ tag → refused x ≡ told
+    pub tag-wrong : {x : Refusal} → x ≡ wrongAt 3 spot pos → t ≢ tag → refused x ≡ told
     unfolding readPart need checked
     tag-wrong e h = simp (e, ← found, le-ltb, ne-eqb)
 

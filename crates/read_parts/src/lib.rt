@@ -18,7 +18,7 @@ use reference::cut;
 use reference::left_over;
 use reference::too_long;
 use reference::view_of;
-use reference::wrong;
+use reference::wrong_value;
 use table::Counts;
 use table::put_extra;
 
@@ -57,13 +57,13 @@ pub fn read_fixed(d: &[u8], least: usize, place: u8, order: u8, range: u8) -> Fi
     let first = octet(d, 0);
     if first != 0 {
         return FixedRead::Not {
-            why: wrong(3, order),
+            why: wrong_value(3, order, 0),
         };
     }
     let count = octet(d, 1) as usize;
     if count < least {
         return FixedRead::Not {
-            why: wrong(4, range),
+            why: wrong_value(4, range, 1),
         };
     }
     FixedRead::Got { count }

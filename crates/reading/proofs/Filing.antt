@@ -13,10 +13,12 @@ use Rattle.octets.proofs.Part.{length-part}
 use Rattle.reference.specs.declared.Refusal.{Refusal}
 use Rattle.reference.specs.Meaning.{Profile, tapsOf, namesOf, extrasOf, sum}
 use Rattle.reference.specs.Layout.{layoutProfile}
+use Rattle.reference.specs.Refusals.{shifted}
 use Rattle.reference.specs.Steps.{Answer, ok, refused, followed, seen, outward, many}
 use Rattle.reference.specs.Reader.{readBody, readProfile}
 use Rattle.reference.specs.Heads.{readHeader}
 use Rattle.reference.proofs.Heads.{header-known, profile-no, profile-data}
+use Rattle.reference.proofs.Blame.{body-inside}
 use Rattle.reference.proofs.Parts.{profile-reads}
 use Rattle.reference.proofs.Steps.{seen-ok, seen-no}
 use Rattle.table.specs.declared.Counts.{Counts}
@@ -147,8 +149,13 @@ module _ {d : List ℕ} {n pos : ℕ} {t₀ : List ℕ} where
           kept : {w : BodyRead} → v ≡ w → seen filledWith body ≡ bodyTold (length bytes) t′ w
           kept f = followed-seen filledWith body ∙ sym (s .told) ∙ ap (bodyTold (length bytes) t′) f
 
-          pub no-body : {x : Refusal} {e : List ℕ} → v ≡ Bodies.Not x → Stored e (Ways.Not x)
-          no-body f = refuse (by-body ∙ ap (outward (cur + 8) len) (seen-no filledWith body (kept f)))
+          -- what is refused in the data is told of the slice
+          module _ {x : Refusal} (f : v ≡ Bodies.Not x) where
+            pub offset-fits : length d ≤ 65535 → cur + 8 + x .offset ≤ 18446744073709551615
+            offset-fits small = omega (arith, body-inside tag bytes (length bytes) x (seen-no filledWith body (kept f)), data-small small)
+
+            pub no-body : {y : Refusal} {e : List ℕ} → y ≡ shifted (cur + 8) x → Stored e (Ways.Not y)
+            no-body q = refuse (by-body ∙ ap (outward (cur + 8) len) (seen-no filledWith body (kept f)) ∙ ap (λ (z : Refusal). refused z) (sym q))
 
           pub one-more : {u′ : Counts} → ((k : ℕ) → Fits w8 (getD d k 0)) → v ≡ Bodies.Got u′ → Files d n pos t₀ t′ u′ (cur + 8 + len) (i + 1)
           one-more octs f =

@@ -53,7 +53,7 @@ module _ (d : List ℕ) where
     head-cut e h = simp (e, le-ltb, lt-ltb)
 
     module _ {n : ℕ} (size : n ≡ be (part d 0 4)) (room : 8 ≤ length d) where
-      pub head-odd : {x : Refusal} → x ≡ wrongAt 4 place-type-id-length → n % 4 ≢ 0 → No x
+      pub head-odd : {x : Refusal} → x ≡ wrongAt 4 place-type-id-length 0 → n % 4 ≢ 0 → No x
       unfolding readHead need checked
       head-odd e h = simp (e, ← size, le-ltb, ne-eqb)
 

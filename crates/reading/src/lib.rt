@@ -41,11 +41,12 @@ use reference::TAPS;
 use reference::View;
 use reference::cut;
 use reference::left_over;
+use reference::shift;
 use reference::too_large;
 use reference::too_long;
 use reference::too_many;
 use reference::view_of;
-use reference::wrong;
+use reference::wrong_value;
 use table::Counts;
 use table::SIZE;
 use table::clear;
@@ -109,7 +110,7 @@ fn read_head(d: &[u8]) -> HeadRead
     let len = be32(d, 0) as usize;
     if len % 4 != 0 {
         return HeadRead::Not {
-            why: wrong(4, PLACE_TYPE_ID_LENGTH),
+            why: wrong_value(4, PLACE_TYPE_ID_LENGTH, 0),
         };
     }
     if end - 4 < len {
@@ -212,8 +213,10 @@ fn read_profiles(d: &[u8], pos: usize, n: usize, table: &mut [u32]) -> ProfilesR
                 let data = cur + 8;
                 let next = data + len;
                 match read_body(&d[data..next], cur, tag, table, i, used) {
-                    BodyRead::Not { why: wrong } => {
-                        return ProfilesRead::Not { why: wrong };
+                    BodyRead::Not { why: within } => {
+                        return ProfilesRead::Not {
+                            why: shift(data, within),
+                        };
                     }
                     BodyRead::Got { used: after } => {
                         used = after;

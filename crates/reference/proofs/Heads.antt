@@ -103,7 +103,7 @@ module _ (w tag header wrong : ℕ) (d : List ℕ) (pos end : ℕ) where
       let p = pos + 4 + w in
       let n = be (part d (pos + 4) w) in
       let (a, f) = guard-ok (ltb end (pos + (4 + w))) (cutAt header pos (4 + w) end) _ e in
-      let (b, g) = pass-ok (eqb (be (part d pos 4)) tag) _ (wrongAt 3 wrong) f in
+      let (b, g) = pass-ok (eqb (be (part d pos 4)) tag) _ (wrongAt 3 wrong pos) f in
       let (c, k) = guard-ok (ltb (end - p) n) (longAt p n end) (ok (p + n) p) g in
       let s : p + n ≡ stop = cc in
       let q : p ≡ start = cc in

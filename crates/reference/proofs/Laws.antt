@@ -234,9 +234,9 @@ module _ {A : Type 0} {good : A → Type 0} {lay : A → List ℕ} where
       → ((v : ℕ) → v < 256 ^ w → T (test v) → Reads (m - w) (f v) lay (λ a. (good a) × (get a ≡ v))) → Reads m (checked w test n place f) (λ a. octets w (get a) ++ lay a) good
   unfolding checked number
   reads-checked {m} {f} w test n place get t small pass h =
-      let it : Reads m (number w (λ v. guarded (test v) (wrongAt n place) (f v))) (λ a. octets w (get a) ++ lay a) good =
-      reads-number w get t small λ v hv. reads-guarded (test v) (wrongAt n place) (λ a g. subst (λ (x : ℕ). T (test x)) (g .1) (pass a (g .0))) (h v hv) in
-      record { sound = it .sound; complete = it .complete; short = it .short; least = it .least }
+      let at : (o : ℕ) → Reads m (number w (λ v. guarded (test v) (wrongAt n place o) (f v))) (λ a. octets w (get a) ++ lay a) good =
+      λ o. reads-number w get t small λ v hv. reads-guarded (test v) (wrongAt n place o) (λ a g. subst (λ (x : ℕ). T (test x)) (g .1) (pass a (g .0))) (h v hv) in
+      record { sound = λ d pos end. at pos .sound d pos end; complete = λ d pos end. at pos .complete d pos end; short = λ d pos end. at pos .short d pos end; least = at 0 .least }
 
   -- one that must be k, and one that must be k at least
   pub reads-equal : {m : ℕ} {f : ℕ → Reader A} (w k n place : ℕ) → T (leb w m) → k < 256 ^ w

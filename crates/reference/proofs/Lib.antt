@@ -22,6 +22,8 @@ pub mod Orders
 pub mod Sample
 pub mod Shows
 pub mod Walk
+pub mod Reach
+pub mod Blame
 pub mod Promised
 pub mod Good
 pub mod Places

@@ -1,5 +1,5 @@
 -- One case at least for each number and each place of a refused reading, and for each order of two checks that could change places: a case
--- has later faults as well. Figures count from the start of a profile's data inside it. Assumes nothing.
+-- has later faults as well. Two figures count from the start of a profile's data inside it, the third from the slice's. Assumes nothing.
 use Prim.Native.Nat.{ℕ}
 use mathlib.Core.Path.{_≡_, refl}
 use mathlib.Core.List.{List, [], _∷_, _++_, map}
@@ -12,11 +12,11 @@ use Rattle.reference.specs.Reader.{readCount, readRun, readNamed, compon
 -- accepted with so many octets, or the refusal
 pub data Out : Type 0 where
   taken : ℕ → Out
-  not : ℕ → ℕ → ℕ → ℕ → Out
+  not : ℕ → ℕ → ℕ → ℕ → ℕ → Out
 
 abbrev pub out : Answer Reference → Out
 out (ok m n) = taken n
-out (refused x) = not (x .number) (x .place) (x .first) (x .second)
+out (refused x) = not (x .number) (x .place) (x .first) (x .second) (x .offset)
 
 -- ---- how the cases are written
 
@@ -73,20 +73,20 @@ taps n = located 2 ++ marked 0x40 (n ∷ joined (replicate n tap))
 
 abbrev references : List (List ℕ × Out)
 references =
-    ([], not 1 1 8 0)
-    ∷ (replicate 7 255, not 1 1 8 7)
-    ∷ (four 3 ++ four 0, not 4 33 0 0)
-    ∷ (four 6 ++ [], not 1 1 8 4)
-    ∷ (four 7 ++ four 0, not 4 33 0 0)
-    ∷ (four 8 ++ four 0, not 2 0 8 4)
-    ∷ (four 4 ++ four 0, not 1 2 12 8)
-    ∷ (four 4 ++ four 0 ++ (0 ∷ 0 ∷ 0 ∷ []), not 1 2 12 11)
-    ∷ (four 0 ++ four 1, not 1 3 16 8)
-    ∷ (four 0 ++ four 1 ++ replicate 7 0, not 1 3 16 15)
-    ∷ (four 0 ++ four 2 ++ (four 9 ++ four 0), not 1 3 24 16)
-    ∷ (four 0 ++ four 1 ++ (four 9 ++ four 3 ++ (1 ∷ 2 ∷ [])), not 2 0 3 2)
-    ∷ (four 0 ++ four 1 ++ (tag 6 ++ four 3 ++ (1 ∷ 2 ∷ [])), not 2 0 3 2)
-    ∷ (four 0 ++ four 1 ++ (tag 5 ++ four 3 ++ (1 ∷ 2 ∷ [])), not 2 0 3 2)
+    ([], not 1 1 8 0 0)
+    ∷ (replicate 7 255, not 1 1 8 7 0)
+    ∷ (four 3 ++ four 0, not 4 33 0 0 0)
+    ∷ (four 6 ++ [], not 1 1 8 4 0)
+    ∷ (four 7 ++ four 0, not 4 33 0 0 0)
+    ∷ (four 8 ++ four 0, not 2 0 8 4 4)
+    ∷ (four 4 ++ four 0, not 1 2 12 8 8)
+    ∷ (four 4 ++ four 0 ++ (0 ∷ 0 ∷ 0 ∷ []), not 1 2 12 11 8)
+    ∷ (four 0 ++ four 1, not 1 3 16 8 8)
+    ∷ (four 0 ++ four 1 ++ replicate 7 0, not 1 3 16 15 8)
+    ∷ (four 0 ++ four 2 ++ (four 9 ++ four 0), not 1 3 24 16 16)
+    ∷ (four 0 ++ four 1 ++ (four 9 ++ four 3 ++ (1 ∷ 2 ∷ [])), not 2 0 3 2 16)
+    ∷ (four 0 ++ four 1 ++ (tag 6 ++ four 3 ++ (1 ∷ 2 ∷ [])), not 2 0 3 2 16)
+    ∷ (four 0 ++ four 1 ++ (tag 5 ++ four 3 ++ (1 ∷ 2 ∷ [])), not 2 0 3 2 16)
     ∷ (four 0 ++ four 0 ++ (1 ∷ []), taken 8)
     ∷ []
 
@@ -94,57 +94,71 @@ references =
 
 abbrev biops : List (List ℕ × Out)
 biops =
-    (biop [], not 1 5 2 0)
-    ∷ (biop (1 ∷ []), not 1 5 2 1)
-    ∷ (biop (1 ∷ 1 ∷ []), not 3 28 0 0)
-    ∷ (biop (0 ∷ 1 ∷ []), not 4 34 0 0)
-    ∷ (biop (0 ∷ 2 ∷ []), not 1 6 7 2)
-    ∷ (biop (0 ∷ 2 ∷ (tag 0x51 ++ [])), not 1 6 7 6)
-    ∷ (biop (0 ∷ 2 ∷ (tag 0x51 ++ (9 ∷ []))), not 3 29 0 0)
-    ∷ (biop (0 ∷ 2 ∷ (tag 0x50 ++ (9 ∷ place))), not 2 0 9 8)
-    ∷ (biop (0 ∷ 2 ∷ (tag 0x50 ++ (8 ∷ place) ++ (9 ∷ []))), not 1 7 16 15)
-    ∷ (biop (0 ∷ 2 ∷ marked 0x50 (place ++ (1 ∷ []))), not 2 0 1 0)
-    ∷ (biop (0 ∷ 2 ∷ marked 0x50 (place ++ (0 ∷ 7 ∷ []))), not 1 8 1 0)
-    ∷ (biop (located 2 ++ tag 0x41), not 1 9 21 20)
-    ∷ (biop (located 2 ++ marked 0x41 []), not 3 30 0 0)
-    ∷ (biop (located 2 ++ (tag 0x40 ++ (1 ∷ []))), not 2 0 1 0)
-    ∷ (biop (located 2 ++ marked 0x40 []), not 1 10 22 21)
-    ∷ (biop (located 2 ++ marked 0x40 (1 ∷ 0 ∷ 1 ∷ 0 ∷ 0x16 ∷ 0 ∷ 2 ∷ [])), not 1 11 29 28)
-    ∷ (biop (located 2 ++ marked 0x40 (1 ∷ 0 ∷ 1 ∷ 0 ∷ 0x16 ∷ 0 ∷ 2 ∷ 1 ∷ []) ++ (9 ∷ [])), not 2 0 1 0)
-    ∷ (biop (located 2 ++ marked 0x40 (0 ∷ 7 ∷ 7 ∷ []) ++ (9 ∷ [])), not 1 12 2 0)
-    ∷ (biop (located 3 ++ marked 0x40 (0 ∷ [])), not 1 13 27 22)
-    ∷ (biop (located 3 ++ marked 0x40 (0 ∷ []) ++ (tag 0x99 ++ (2 ∷ 7 ∷ []))), not 2 0 2 1)
-    ∷ (biop (located 2 ++ marked 0x40 (0 ∷ []) ++ (7 ∷ 7 ∷ 7 ∷ [])), not 1 14 3 0)
-    ∷ (biop (located 3 ++ marked 0x40 (0 ∷ []) ++ extra ++ (7 ∷ [])), not 1 14 1 0)
+    (biop [], not 1 5 2 0 16)
+    ∷ (biop (1 ∷ []), not 1 5 2 1 16)
+    ∷ (biop (1 ∷ 1 ∷ []), not 3 28 0 0 16)
+    ∷ (biop (0 ∷ 1 ∷ []), not 4 34 0 0 17)
+    ∷ (biop (0 ∷ 2 ∷ []), not 1 6 7 2 18)
+    ∷ (biop (0 ∷ 2 ∷ (tag 0x51 ++ [])), not 1 6 7 6 18)
+    ∷ (biop (0 ∷ 2 ∷ (tag 0x51 ++ (9 ∷ []))), not 3 29 0 0 18)
+    ∷ (biop (0 ∷ 2 ∷ (tag 0x50 ++ (9 ∷ place))), not 2 0 9 8 23)
+    ∷ (biop (0 ∷ 2 ∷ (tag 0x50 ++ (8 ∷ place) ++ (9 ∷ []))), not 1 7 16 15 23)
+    ∷ (biop (0 ∷ 2 ∷ marked 0x50 (place ++ (1 ∷ []))), not 2 0 1 0 32)
+    ∷ (biop (0 ∷ 2 ∷ marked 0x50 (place ++ (0 ∷ 7 ∷ []))), not 1 8 1 0 32)
+    ∷ (biop (located 2 ++ tag 0x41), not 1 9 21 20 32)
+    ∷ (biop (located 2 ++ marked 0x41 []), not 3 30 0 0 32)
+    ∷ (biop (located 2 ++ (tag 0x40 ++ (1 ∷ []))), not 2 0 1 0 37)
+    ∷ (biop (located 2 ++ marked 0x40 []), not 1 10 22 21 37)
+    ∷ (biop (located 2 ++ marked 0x40 (1 ∷ 0 ∷ 1 ∷ 0 ∷ 0x16 ∷ 0 ∷ 2 ∷ [])), not 1 11 29 28 38)
+    ∷ (biop (located 2 ++ marked 0x40 (1 ∷ 0 ∷ 1 ∷ 0 ∷ 0x16 ∷ 0 ∷ 2 ∷ 1 ∷ []) ++ (9 ∷ [])), not 2 0 1 0 45)
+    ∷ (biop (located 2 ++ marked 0x40 (0 ∷ 7 ∷ 7 ∷ []) ++ (9 ∷ [])), not 1 12 2 0 38)
+    ∷ (biop (located 3 ++ marked 0x40 (0 ∷ [])), not 1 13 27 22 38)
+    ∷ (biop (located 3 ++ marked 0x40 (0 ∷ []) ++ (tag 0x99 ++ (2 ∷ 7 ∷ []))), not 2 0 2 1 43)
+    ∷ (biop (located 2 ++ marked 0x40 (0 ∷ []) ++ (7 ∷ 7 ∷ 7 ∷ [])), not 1 14 3 0 38)
+    ∷ (biop (located 3 ++ marked 0x40 (0 ∷ []) ++ extra ++ (7 ∷ [])), not 1 14 1 0 43)
     ∷ (biop (located 3 ++ marked 0x40 (1 ∷ tap) ++ extra), taken 50)
+    ∷ []
+
+-- ---- a body that is not the first, behind a type id: the third figure counts from the slice's start
+
+abbrev second : List ℕ → List ℕ
+second l = four 4 ++ (0x73 ∷ 0x72 ∷ 0x67 ∷ 0 ∷ []) ++ four 2 ++ (four 9 ++ four 3 ++ (1 ∷ 2 ∷ 3 ∷ [])) ++ l
+
+abbrev seconds : List (List ℕ × Out)
+seconds =
+    (second (tag 6 ++ four 9), not 2 0 9 0 31)
+    ∷ (second (profile 6 (0 ∷ 1 ∷ [])), not 4 34 0 0 32)
+    ∷ (second (profile 6 (located 2 ++ marked 0x41 [])), not 3 30 0 0 47)
+    ∷ (second (profile 6 (located 2 ++ marked 0x40 (0 ∷ []) ++ (7 ∷ []))), not 1 14 1 0 53)
+    ∷ (second (profile 5 (served 1 (19 ∷ []))), not 4 36 0 0 41)
     ∷ []
 
 -- ---- a LiteOptions body
 
 abbrev lites : List (List ℕ × Out)
 lites =
-    (lite [], not 1 15 2 0)
-    ∷ (lite (1 ∷ 0 ∷ []), not 3 31 0 0)
-    ∷ (lite (0 ∷ 0 ∷ []), not 4 35 0 0)
-    ∷ (lite (0 ∷ 1 ∷ (tag 0x47 ++ (0 ∷ 0 ∷ 0 ∷ []))), not 1 16 10 9)
-    ∷ (lite (0 ∷ 1 ∷ (tag 0x47 ++ four 5)), not 3 32 0 0)
-    ∷ (lite (0 ∷ 1 ∷ (tag 0x46 ++ four 5 ++ (20 ∷ []))), not 2 0 5 1)
-    ∷ (lite (served 1 []), not 1 17 11 10)
-    ∷ (lite (served 1 (19 ∷ [])), not 4 36 0 0)
-    ∷ (lite (served 1 (20 ∷ replicate 19 0)), not 1 18 31 30)
-    ∷ (lite (served 1 (address ++ (0 ∷ 0 ∷ 0 ∷ []))), not 1 19 35 34)
-    ∷ (lite (served 1 (address ++ four 1 ++ (0 ∷ 0 ∷ []))), not 1 20 39 37)
-    ∷ (lite (served 1 (address ++ four 1 ++ four 3 ++ (7 ∷ 7 ∷ []))), not 2 0 3 2)
-    ∷ (lite (served 1 (address ++ four 1 ++ four 2 ++ (7 ∷ 7 ∷ 0 ∷ []))), not 1 21 45 42)
-    ∷ (lite (served 1 (address ++ four 1 ++ four 0 ++ four 1)), not 2 0 1 0)
-    ∷ (lite (served 1 (address ++ four 0 ++ (0 ∷ 0 ∷ []))), not 1 22 39 37)
-    ∷ (lite (served 1 (address ++ four 0 ++ four 2 ++ (7 ∷ [])) ++ (9 ∷ [])), not 2 0 2 1)
-    ∷ (lite (served 1 (address ++ four 0 ++ four 0 ++ (7 ∷ 7 ∷ [])) ++ (9 ∷ [])), not 1 23 2 0)
-    ∷ (lite (served 2 (address ++ four 0 ++ four 0)), not 1 24 44 39)
-    ∷ (lite (served 2 (address ++ four 0 ++ four 0) ++ (tag 0x99 ++ (1 ∷ []))), not 2 0 1 0)
-    ∷ (lite (served 1 (address ++ four 0 ++ four 0) ++ (7 ∷ [])), not 1 25 1 0)
+    (lite [], not 1 15 2 0 16)
+    ∷ (lite (1 ∷ 0 ∷ []), not 3 31 0 0 16)
+    ∷ (lite (0 ∷ 0 ∷ []), not 4 35 0 0 17)
+    ∷ (lite (0 ∷ 1 ∷ (tag 0x47 ++ (0 ∷ 0 ∷ 0 ∷ []))), not 1 16 10 9 18)
+    ∷ (lite (0 ∷ 1 ∷ (tag 0x47 ++ four 5)), not 3 32 0 0 18)
+    ∷ (lite (0 ∷ 1 ∷ (tag 0x46 ++ four 5 ++ (20 ∷ []))), not 2 0 5 1 26)
+    ∷ (lite (served 1 []), not 1 17 11 10 26)
+    ∷ (lite (served 1 (19 ∷ [])), not 4 36 0 0 26)
+    ∷ (lite (served 1 (20 ∷ replicate 19 0)), not 1 18 31 30 27)
+    ∷ (lite (served 1 (address ++ (0 ∷ 0 ∷ 0 ∷ []))), not 1 19 35 34 47)
+    ∷ (lite (served 1 (address ++ four 1 ++ (0 ∷ 0 ∷ []))), not 1 20 39 37 51)
+    ∷ (lite (served 1 (address ++ four 1 ++ four 3 ++ (7 ∷ 7 ∷ []))), not 2 0 3 2 55)
+    ∷ (lite (served 1 (address ++ four 1 ++ four 2 ++ (7 ∷ 7 ∷ 0 ∷ []))), not 1 21 45 42 57)
+    ∷ (lite (served 1 (address ++ four 1 ++ four 0 ++ four 1)), not 2 0 1 0 59)
+    ∷ (lite (served 1 (address ++ four 0 ++ (0 ∷ 0 ∷ []))), not 1 22 39 37 51)
+    ∷ (lite (served 1 (address ++ four 0 ++ four 2 ++ (7 ∷ [])) ++ (9 ∷ [])), not 2 0 2 1 55)
+    ∷ (lite (served 1 (address ++ four 0 ++ four 0 ++ (7 ∷ 7 ∷ [])) ++ (9 ∷ [])), not 1 23 2 0 55)
+    ∷ (lite (served 2 (address ++ four 0 ++ four 0)), not 1 24 44 39 55)
+    ∷ (lite (served 2 (address ++ four 0 ++ four 0) ++ (tag 0x99 ++ (1 ∷ []))), not 2 0 1 0 60)
+    ∷ (lite (served 1 (address ++ four 0 ++ four 0) ++ (7 ∷ [])), not 1 25 1 0 55)
     ∷ (lite (served 1 (address ++ four 0 ++ four 0)), taken 55)
-    ∷ (lite (served 1 (address ++ replicate 4 255 ++ four 0)), not 1 21 43 39)
+    ∷ (lite (served 1 (address ++ replicate 4 255 ++ four 0)), not 1 21 43 39 55)
     ∷ []
 
 -- ---- tables too small, after all else: the first of profiles, taps, names, extras
@@ -154,30 +168,30 @@ nameless = four 0 ++ four 0
 
 abbrev tables : List (List ℕ × Out)
 tables =
-    (whole (replicate 9 (four 1 ++ four 0)), not 7 40 9 8)
-    ∷ (four 0 ++ four 10 ++ joined (replicate 9 (four 1 ++ four 0)), not 1 3 88 80)
-    ∷ (whole (profile 6 (taps 30) ∷ profile 6 (taps 7) ∷ replicate 7 (four 1 ++ four 0)), not 7 40 9 8)
-    ∷ (whole (profile 6 (taps 30) ∷ profile 6 (taps 7) ∷ []), not 7 41 37 36)
-    ∷ (whole (profile 5 (served 1 (address ++ four 33 ++ joined (replicate 33 nameless) ++ four 0)) ∷ profile 6 (taps 30) ∷ profile 6 (taps 7) ∷ []), not 7 41 37 36)
-    ∷ (whole (profile 5 (served 34 (address ++ four 33 ++ joined (replicate 33 nameless) ++ four 0) ++ joined (replicate 33 extra)) ∷ []), not 7 42 33 32)
-    ∷ (whole (profile 6 (located 35 ++ marked 0x40 (0 ∷ []) ++ joined (replicate 33 extra)) ∷ []), not 7 43 33 32)
+    (whole (replicate 9 (four 1 ++ four 0)), not 7 40 9 8 0)
+    ∷ (four 0 ++ four 10 ++ joined (replicate 9 (four 1 ++ four 0)), not 1 3 88 80 80)
+    ∷ (whole (profile 6 (taps 30) ∷ profile 6 (taps 7) ∷ replicate 7 (four 1 ++ four 0)), not 7 40 9 8 0)
+    ∷ (whole (profile 6 (taps 30) ∷ profile 6 (taps 7) ∷ []), not 7 41 37 36 0)
+    ∷ (whole (profile 5 (served 1 (address ++ four 33 ++ joined (replicate 33 nameless) ++ four 0)) ∷ profile 6 (taps 30) ∷ profile 6 (taps 7) ∷ []), not 7 41 37 36 0)
+    ∷ (whole (profile 5 (served 34 (address ++ four 33 ++ joined (replicate 33 nameless) ++ four 0) ++ joined (replicate 33 extra)) ∷ []), not 7 42 33 32 0)
+    ∷ (whole (profile 6 (located 35 ++ marked 0x40 (0 ∷ []) ++ joined (replicate 33 extra)) ∷ []), not 7 43 33 32 0)
     ∷ (whole (profile 6 (located 34 ++ marked 0x40 (0 ∷ []) ++ joined (replicate 32 extra)) ∷ []), taken 198)
-    ∷ (replicate 65536 0, not 6 0 65536 65535)
+    ∷ (replicate 65536 0, not 6 0 65536 65535 0)
     ∷ []
 
 -- ---- the whole slice: leftover octets last, before 7
 
 abbrev slices : List (List ℕ × Out)
 slices =
-    (whole [] ++ (7 ∷ 7 ∷ []), not 1 4 2 0)
-    ∷ (whole (replicate 9 (four 1 ++ four 0)) ++ (7 ∷ []), not 1 4 1 0)
-    ∷ (whole (replicate 9 (four 1 ++ four 0)), not 7 40 9 8)
-    ∷ (biop (0 ∷ 1 ∷ []) ++ (7 ∷ []), not 4 34 0 0)
+    (whole [] ++ (7 ∷ 7 ∷ []), not 1 4 2 0 8)
+    ∷ (whole (replicate 9 (four 1 ++ four 0)) ++ (7 ∷ []), not 1 4 1 0 80)
+    ∷ (whole (replicate 9 (four 1 ++ four 0)), not 7 40 9 8 0)
+    ∷ (biop (0 ∷ 1 ∷ []) ++ (7 ∷ []), not 4 34 0 0 17)
     ∷ (whole [], taken 8)
-    ∷ (replicate 65536 0, not 6 0 65536 65535)
+    ∷ (replicate 65536 0, not 6 0 65536 65535 0)
     ∷ []
 
-pub leading-places : map (λ q. out (readLeading (q .0))) (references ++ biops ++ lites ++ tables) ≡ map (λ q. q .1) (references ++ biops ++ lites ++ tables)
+pub leading-places : map (λ q. out (readLeading (q .0))) (references ++ biops ++ seconds ++ lites ++ tables) ≡ map (λ q. q .1) (references ++ biops ++ seconds ++ lites ++ tables)
 unfolding be done need number checked run rest choose ending within fits apart many after readCount readRun readNamed component readFixed readExtra readTap readLocation readObjectLocation readBinder readBiop readAddress readName readContext readService readLite readBody readProfile readReference readLeading
 leading-places = refl
 

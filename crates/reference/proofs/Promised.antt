@@ -3,7 +3,7 @@
 use Prim.Native.Nat.{ℕ, _≤_}
 use mathlib.Core.Path.{_≡_, sym, ap, _∙_, subst}
 use mathlib.Core.Logic.{_↔_}
-use mathlib.Core.List.{List}
+use mathlib.Core.List.{List, [], _∷_}
 use native.Mathlib.Omega.{arith}
 use lib.ListN.{length}
 use Rattle.octets.specs.Octets.{Octets}
@@ -18,10 +18,13 @@ use Rattle.reference.specs.Reader.{readLeading, readWhole, answered}
 use Rattle.reference.specs.Placed.{tablesOf}
 use Rattle.reference.specs.Tabled.{tabled, noTables}
 use Rattle.reference.specs.Writer.{written, leaves}
+use Rattle.reference.specs.Checks.{Among}
+use Rattle.reference.specs.Where.{Points, Alike}
 use Rattle.reference.specs.Promises.{taking, ShowsFields, GivesBack}
 use Rattle.reference.proofs.Accept.{accepted, only-accepted, whole, only-whole, whole-leads, unique}
 use Rattle.reference.proofs.Shows.{fields-shown}
 use Rattle.reference.proofs.Written.{part-given-back}
+use Rattle.reference.proofs.Blame as blame
 
 -- ---- from a declared answer to the definition's
 
@@ -93,3 +96,18 @@ write-gives-back d o n e out room =
     subst (λ (x : Answer Reference). (written (answered x .tables) d out ≡ Count n) × (GivesBack d m n out (leaves (answered x .tables) d out))) (sym q)
     (part-given-back d o m n q out room) in
     (m, only-accepted d o m n q .1, a, g)
+
+-- The third figure of a refused reading lies within the slice; where a value is wrong (3, 4), the field stands there and is wrong; 6 and 7 have 0.
+pub offset-inside : (d : List ℕ) (x : Refusal) → answered (readLeading d) .answer ≡ Refused x → Points d x
+offset-inside d x e = blame.leading-points d x (refuses (readLeading d) x e)
+
+pub whole-offset-inside : (d : List ℕ) (x : Refusal) → answered (readWhole d) .answer ≡ Refused x → Points d x
+whole-offset-inside d x e = blame.whole-points d x (refuses (readWhole d) x e)
+
+-- Where a value is wrong, every slice of at least this length, up to 65,535, that agrees with this one up to the end of the field is answered the same:
+-- nothing behind the field is to blame.
+pub blamed : (d e : List ℕ) (x : Refusal) → answered (readLeading d) .answer ≡ Refused x → Among (x .number) (3 ∷ 4 ∷ []) → Alike d e x → answered (readLeading e) .answer ≡ Refused x
+blamed d e x q a l = ap (λ (y : Answer Reference). answered y .answer) (blame.leading-blamed d e x a l (refuses (readLeading d) x q))
+
+pub whole-blamed : (d e : List ℕ) (x : Refusal) → answered (readWhole d) .answer ≡ Refused x → Among (x .number) (3 ∷ 4 ∷ []) → Alike d e x → answered (readWhole e) .answer ≡ Refused x
+whole-blamed d e x q a l = ap (λ (y : Answer Reference). answered y .answer) (blame.whole-blamed d e x a l (refuses (readWhole d) x q))

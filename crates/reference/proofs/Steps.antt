@@ -8,7 +8,7 @@ use native.Mathlib.Omega.{arith}
 use lib.Dec.{T, ltb, lt→ltb, not-T, eqb, eqb→eq, eqb-refl}
 use Rattle.octets.specs.Octets.{part}
 use Rattle.reference.specs.declared.Refusal.{Refusal}
-use Rattle.reference.specs.Steps.{Answer, ok, refused, Reader, pick, followed, seen, done, need, run, ending, after}
+use Rattle.reference.specs.Steps.{Answer, ok, refused, Reader, pick, followed, seen, done, need, run, ending, within, fits, after}
 use Rattle.reference.specs.Refusals.{cutAt, leftAt, longAt}
 use Rattle.reference.proofs.Laws.{guard-pass, pass-pass, not-ltb}
 
@@ -28,6 +28,14 @@ module _ {A : Type 0} (d : List ℕ) (pos end : ℕ) where
   pub run-pass : (n : ℕ) (f : List ℕ → Reader A) → n ≤ end - pos → run n f d pos end ≡ f (part d pos n) d (pos + n) end
   unfolding run
   run-pass n f h = guard-pass (ltb (end - pos) n) (refused (longAt pos n end)) (f (part d pos n) d (pos + n) end) (not-ltb (end - pos) n h)
+
+  pub within-pass : (n : ℕ) (r : Reader A) → n ≤ end - pos → within n r d pos end ≡ r d pos (pos + n)
+  unfolding within
+  within-pass n r h = guard-pass (ltb (end - pos) n) (refused (longAt pos n end)) (r d pos (pos + n)) (not-ltb (end - pos) n h)
+
+  pub fits-pass : (n : ℕ) (r : Reader A) → n ≤ end - pos → fits n r d pos end ≡ r d pos end
+  unfolding fits
+  fits-pass n r h = guard-pass (ltb (end - pos) n) (refused (longAt pos n end)) (r d pos end) (not-ltb (end - pos) n h)
 
 module _ {A : Type 0} (d : List ℕ) (pos end : ℕ) where
   pub ending-no : (place : ℕ) (r : Reader A) {x : Refusal} → r d pos end ≡ refused x → ending place r d pos end ≡ refused x

@@ -1,6 +1,7 @@
 -- What a reading answers, as a function on lists (document 01, "Refusals by number" and "Places"): the readers of each part, put together from
 -- steps and nested as 01 nests the parts, with the Rust's checks in their order. 6 comes first; in the whole-slice reading leftover octets come
--- last; then 7. Inside profile data the figures count from the start of that data. Assumes nothing.
+-- last; then 7. Inside profile data the first two figures count from the start of that data; the third, the offset in the caller's slice, is made by
+-- the steps, and no reader names it. Assumes nothing.
 use Prim.Native.Nat.{ℕ, _+_, _-_, _%_}
 use mathlib.Core.List.{List}
 use lib.Dec.{ltb, leb, eqb}

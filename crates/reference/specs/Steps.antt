@@ -5,7 +5,7 @@ use mathlib.Core.List.{List, [], _∷_}
 use lib.Dec.{ltb, eqb}
 use Rattle.octets.specs.Octets.{part, be}
 use Rattle.reference.specs.declared.Refusal.{Refusal}
-use Rattle.reference.specs.Refusals.{cutAt, leftAt, longAt, wrongAt}
+use Rattle.reference.specs.Refusals.{cutAt, leftAt, longAt, wrongAt, shifted}
 
 -- what was read, and where it ends; or why it is refused
 pub data Answer (A : Type 0) : Type 0 where
@@ -24,10 +24,10 @@ abbrev pub followed : {A B : Type 0} → Answer B → (B → ℕ → Answer A) �
 followed (ok b next) f = f b next
 followed (refused x) f = refused x
 
--- the answer of n octets of data that stand at pos
+-- the answer of n octets of data that stand at pos, told of the list they stand in
 abbrev pub outward : {A : Type 0} → ℕ → ℕ → Answer A → Answer A
 outward pos n (ok a next) = ok a (pos + n)
-outward pos n (refused x) = refused x
+outward pos n (refused x) = refused (shifted pos x)
 
 -- the answer with its value told otherwise, as an entry of a table
 abbrev pub seen : {A B : Type 0} → (A → B) → Answer A → Answer B
@@ -49,7 +49,7 @@ module _ {A : Type 0} where
 
   -- the same, which must pass the test, or n
   unfoldable pub checked : ℕ → (ℕ → Bool) → ℕ → ℕ → (ℕ → Reader A) → Reader A
-  checked w test n place f d pos end = pick (test (be (part d pos w))) (number w f d pos end) (refused (wrongAt n place))
+  checked w test n place f d pos end = pick (test (be (part d pos w))) (number w f d pos end) (refused (wrongAt n place pos))
 
   -- n octets, or 2
   unfoldable pub run : ℕ → (List ℕ → Reader A) → Reader A

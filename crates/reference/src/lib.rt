@@ -2,7 +2,7 @@
 // constants, and one constructor for each sort of refusal. What a reader must believe of them stands in specs/.
 ghost use mathlib.Core.Path.{_≡_};
 ghost use Prim.Native.Nat.{_+_, _≤_};
-ghost use Rattle.reference.specs.Refusals.{refusal, cutAt, leftAt, longAt};
+ghost use Rattle.reference.specs.Refusals.{refusal, cutAt, leftAt, longAt, wrongAt, shifted};
 ghost use Rattle.reference.specs.Tabled.{noTables};
 
 // A run of octets in the caller's slice.
@@ -95,12 +95,14 @@ pub struct Tables {
     pub extras: [LiteComponent; 32],
 }
 
-// Why something is refused: document 01's number, place and two figures.
+// Why something is refused: document 01's number, place and two figures, and the offset in the caller's slice where a reading broke
+// (0 for 6, 7 and in writing).
 pub struct Refusal {
     pub number: u8,
     pub place: u8,
     pub first: usize,
     pub second: usize,
+    pub offset: usize,
 }
 
 // Octets consumed or written, or the refusal.
@@ -287,6 +289,7 @@ pub fn cut(place: u8, at: usize, k: usize, end: usize) -> Refusal
         place,
         first: at + k,
         second: end,
+        offset: at,
     }
 }
 
@@ -300,6 +303,7 @@ pub fn left_over(place: u8, at: usize, end: usize) -> Refusal
         place,
         first: end - at,
         second: 0,
+        offset: at,
     }
 }
 
@@ -313,10 +317,38 @@ pub fn too_long(at: usize, declared: usize, end: usize) -> Refusal
         place: 0,
         first: declared,
         second: end - at,
+        offset: at,
     }
 }
 
-// 3, 4 or 8: a value or a count is wrong, and the place says which; or 255, with no place: a number of a lent table would be cut.
+// 3 or 4: the field at `at` has a wrong value; the place says which one it is.
+pub fn wrong_value(number: u8, place: u8, at: usize) -> Refusal
+    ensures { λ r. ⌜ r ≡ wrongAt number place at ⌝ }
+{
+    Refusal {
+        number,
+        place,
+        first: 0,
+        second: 0,
+        offset: at,
+    }
+}
+
+// A refusal that was met in data of its own, which stands at `base`.
+pub fn shift(base: usize, why: Refusal) -> Refusal
+    requires { ⌜ base + why .offset ≤ 18446744073709551615 ⌝ }
+    ensures { λ r. ⌜ r ≡ shifted base why ⌝ }
+{
+    Refusal {
+        number: why.number,
+        place: why.place,
+        first: why.first,
+        second: why.second,
+        offset: base + why.offset,
+    }
+}
+
+// 4 or 8 of tables: a length or a count is wrong, and the place says which; or 255, with no place: a number of a lent table would be cut.
 pub fn wrong(number: u8, place: u8) -> Refusal
     ensures { λ r. ⌜ r ≡ refusal number place 0 0 ⌝ }
 {
@@ -325,6 +357,7 @@ pub fn wrong(number: u8, place: u8) -> Refusal
         place,
         first: 0,
         second: 0,
+        offset: 0,
     }
 }
 
@@ -337,6 +370,7 @@ pub fn no_room(need: usize, have: usize) -> Refusal
         place: 0,
         first: need,
         second: have,
+        offset: 0,
     }
 }
 
@@ -349,6 +383,7 @@ pub fn too_large(number: u8, length: usize) -> Refusal
         place: 0,
         first: length,
         second: MOST,
+        offset: 0,
     }
 }
 
@@ -361,6 +396,7 @@ pub fn too_many(place: u8, need: usize, size: usize) -> Refusal
         place,
         first: need,
         second: size,
+        offset: 0,
     }
 }
 
@@ -373,6 +409,7 @@ pub fn outside(place: u8, v: View) -> Refusal
         place,
         first: v.at as usize,
         second: v.len as usize,
+        offset: 0,
     }
 }
 

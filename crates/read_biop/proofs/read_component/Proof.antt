@@ -16,8 +16,8 @@ returns c = search header-cut
 be32-requires : tie.Need-be32-requires
 be32-requires c κs = search needs
 
-wrong-requires : tie.Need-wrong-requires
-wrong-requires c κs = search needs
+wrong-value-requires : tie.Need-wrong-value-requires
+wrong-value-requires c κs = search needs
 
 returns-2 : tie.Need-returns-2
 returns-2 c = search tag-wrong
@@ -51,7 +51,7 @@ read-component-spec =
     cut-requires
     returns
     be32-requires
-    wrong-requires
+    wrong-value-requires
     returns-2
     add-octet
     octet-requires

@@ -13,8 +13,8 @@ returns c = search size-cut
 octet-requires : tie.Need-octet-requires
 octet-requires c κs = search needs
 
-wrong-requires : tie.Need-wrong-requires
-wrong-requires c κs = search needs
+wrong-value-requires : tie.Need-wrong-value-requires
+wrong-value-requires c κs = search needs
 
 returns-2 : tie.Need-returns-2
 returns-2 c = search size-wrong
@@ -47,7 +47,7 @@ read-service-head-spec =
     cut-requires
     returns
     octet-requires
-    wrong-requires
+    wrong-value-requires
     returns-2
     cut-requires-2
     returns-3

@@ -14,8 +14,8 @@ returns c = part-no _ _ _ (search (header-cut 4))
 be32-requires : tie.Need-be32-requires
 be32-requires c κs = search needs
 
-wrong-requires : tie.Need-wrong-requires
-wrong-requires c κs = search needs
+wrong-value-requires : tie.Need-wrong-value-requires
+wrong-value-requires c κs = search needs
 
 returns-2 : tie.Need-returns-2
 returns-2 c = part-no _ _ _ (search (tag-wrong 4))
@@ -48,7 +48,7 @@ read-service-part-spec =
     cut-requires
     returns
     be32-requires
-    wrong-requires
+    wrong-value-requires
     returns-2
     be32-requires-2
     cast-len

@@ -13,8 +13,8 @@ returns c = search fixed-cut
 octet-requires : tie.Need-octet-requires
 octet-requires c κs = search needs
 
-wrong-requires : tie.Need-wrong-requires
-wrong-requires c κs = search needs
+wrong-value-requires : tie.Need-wrong-value-requires
+wrong-value-requires c κs = search needs
 
 returns-2 : tie.Need-returns-2
 returns-2 c = search order-wrong
@@ -25,8 +25,8 @@ octet-requires-2 c κs = search needs
 cast-count : tie.Need-cast-count
 cast-count c = search needs
 
-wrong-requires-2 : tie.Need-wrong-requires-2
-wrong-requires-2 c κs = search needs
+wrong-value-requires-2 : tie.Need-wrong-value-requires-2
+wrong-value-requires-2 c κs = search needs
 
 returns-3 : tie.Need-returns-3
 returns-3 c = search too-few
@@ -41,10 +41,10 @@ read-fixed-spec =
     cut-requires
     returns
     octet-requires
-    wrong-requires
+    wrong-value-requires
     returns-2
     octet-requires-2
     cast-count
-    wrong-requires-2
+    wrong-value-requires-2
     returns-3
     returns-4)

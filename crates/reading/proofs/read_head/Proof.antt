@@ -22,8 +22,8 @@ be32-requires c κs = search needs
 cast-len : tie.Need-cast-len
 cast-len c = search needs
 
-wrong-requires : tie.Need-wrong-requires
-wrong-requires c κs = search needs
+wrong-value-requires : tie.Need-wrong-value-requires
+wrong-value-requires c κs = search needs
 
 returns-3 : tie.Need-returns-3
 returns-3 c = search head-odd
@@ -71,7 +71,7 @@ read-head-spec =
     returns-2
     be32-requires
     cast-len
-    wrong-requires
+    wrong-value-requires
     returns-3
     sub-if4
     too-long-requires

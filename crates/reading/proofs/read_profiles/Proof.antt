@@ -1,7 +1,7 @@
 -- `reading::read_profiles` meets its contract. Each turn files one profile more; what is left to read does what was to be read, and counts stay below the position. Assumes nothing.
 use Prim.Native.Nat.{_-_}
 use borrow.Author.Needs.{needs}
-use Rattle.reading.proofs.Filing.{Files, none-yet, no-header, few, data-inside, next-fits, data-small, no-body, one-more, all-read}
+use Rattle.reading.proofs.Filing.{Files, none-yet, no-header, few, data-inside, next-fits, data-small, offset-fits, no-body, one-more, all-read}
 use Rattle.reading.proofs.read_profiles.Statement.{statement}
 use Rattle.reading.proofs.read_profiles.Tie as tie
 
@@ -47,8 +47,11 @@ part-read-body-end c = search data-inside
 read-body-requires : tie.Need-read-body-requires Inv-loop μ-loop
 read-body-requires c κs = search (few, data-small)
 
-enum-known-wrong : tie.Need-enum-known-wrong Inv-loop μ-loop
-enum-known-wrong c = search needs
+enum-known-within : tie.Need-enum-known-within Inv-loop μ-loop
+enum-known-within c = search needs
+
+shift-requires : tie.Need-shift-requires Inv-loop μ-loop
+shift-requires c κs = search offset-fits
 
 same-length-2 : tie.Need-same-length-2 Inv-loop μ-loop
 same-length-2 c = search needs
@@ -92,7 +95,8 @@ read-profiles-spec =
     part-read-body-start
     part-read-body-end
     read-body-requires
-    enum-known-wrong
+    enum-known-within
+    shift-requires
     same-length-2
     returns-2
     enum-known-after

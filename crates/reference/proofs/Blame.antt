@@ -1,0 +1,170 @@
+-- Where a reading broke: the third figure lies within the slice, where a value is wrong the wrong field stands there, and nothing behind it is to blame.
+-- Assumes nothing.
+use Prim.Native.Nat.{ℕ, _+_, _≤_}
+use mathlib.Core.Path.{_≡_, refl, sym, ap, _∙_, subst}
+use mathlib.Core.Bool.{Bool, true, false, not}
+use mathlib.Core.Logic.{_⊎_, inl, inr, ⊎-elim}
+use mathlib.Core.List.{List, [], _∷_}
+use native.Mathlib.Omega.{arith}
+use lib.ListN.{length}
+use lib.Dec.{T, ltb, eqb}
+use Rattle.reference.specs.declared.Refusal.{Refusal}
+use Rattle.reference.specs.Meaning.{Profile, Reference, tapsOf, namesOf, extrasOf, sum}
+use Rattle.reference.specs.Steps.{Answer, ok, refused, Reader, pick, followed, ending}
+use Rattle.reference.specs.Refusals.{refusal, leftAt}
+use Rattle.reference.specs.Reader.{readCount, readRun, readNamed, component, readFixed, readExtra, readTap, readLocation, readObjectLocation, readBinder, readBiop, readAddress, readName, readContext, readService, readLite, readBody, readProfile, readReference, limit, roomy, sized, readLeading, readWhole}
+use Rattle.reference.specs.Checks.{Among}
+use Rattle.reference.specs.Names.{readShort, readShortName}
+use Rattle.reference.specs.Where.{width, Points, Alike}
+use Rattle.reference.specs.Places.{place-reference-leftover, place-profiles, place-taps, place-names, place-extras}
+use Rattle.reference.proofs.Laws.{refused-ok, guard-pass, not-ltb}
+use Rattle.reference.proofs.Steps.{ending-no}
+use Rattle.reference.proofs.Reach.{blames-wrong, reach, Sure, Knows, later, here, Asked, Tells, tells-ending, tells}
+
+-- ---- the readers' certificates
+
+biop-tells : Tells here 0 readBiop
+unfolding readCount component readFixed readExtra readTap readLocation readObjectLocation readBinder readBiop
+biop-tells = search (tells, tt) depth 60 fits 4000
+
+lite-tells : Tells here 0 readLite
+unfolding readCount readRun readNamed component readFixed readExtra readAddress readName readContext readService readLite
+lite-tells = search (tells, tt) depth 60 fits 4000
+
+body-tells : (t : ℕ) → Tells here 0 (readBody t)
+unfolding readBody
+body-tells t = search (tells, biop-tells, lite-tells)
+
+profile-tells : Tells later 0 readProfile
+unfolding readProfile
+profile-tells = search (tells, tt, body-tells)
+
+reference-tells : Tells later 0 readReference
+unfolding readCount readReference
+reference-tells = search (tells, tt, profile-tells) depth 20
+
+short-tells : Tells later 0 readShort
+unfolding readRun readNamed readShort
+short-tells = search (tells, tt) depth 20
+
+-- what is refused in a profile's data points within it
+pub body-inside : (t : ℕ) (d : List ℕ) (n : ℕ) (x : Refusal) → readBody t d 0 n ≡ refused x → x .offset ≤ n
+body-inside t d n x e =
+    let k = subst (λ (y : Answer Profile). Knows (Asked here n) (readBody t) d 0 n y) e (body-tells t .it d 0 n (omega arith)) in
+    omega (arith, k .to)
+
+-- ---- the whole: 6 and 7 name no octet
+
+abbrev Late : Refusal → Type 0
+Late x = (6 ≤ x .number) × (x .offset ≡ 0)
+
+-- a refusal that is told is late, if the one it is told of is
+told-late : {A : Type 0} {z x : Refusal} → _≡_ {A = Answer A} (refused z) (refused x) → Late z → Late x
+told-late {A} {z} {x} e l = let q : z ≡ x = cc in subst Late q l
+
+late-limit : (size place n : ℕ) (y : Answer Reference) {x : Refusal} → (y ≡ refused x → Late x) → limit size place n y ≡ refused x → Late x
+late-limit size place n y {x} k e = go (ltb size n) e
+  where
+    go : (b : Bool) → pick b (refused (refusal 7 place n size)) y ≡ refused x → Late x
+    go true q = told-late q (omega arith, refl)
+    go false q = k q
+
+late-roomy : (m : Reference) (next : ℕ) {x : Refusal} → roomy m next ≡ refused x → Late x
+late-roomy m next =
+    let p = m .profiles in
+    late-limit 8 place-profiles (length p) _ (late-limit 36 place-taps (sum tapsOf p) _ (late-limit 32 place-names (sum namesOf p) _ (late-limit 32 place-extras (sum extrasOf p) (ok m next) (λ e. absurd (refused-ok (sym e))))))
+
+-- a refusal is 6 or 7, or the reader's own
+sized-no : (b : Bool) (n : ℕ) (y : Answer Reference) {x : Refusal} → pick b (refused (refusal 6 0 n 65535)) (followed y roomy) ≡ refused x
+    → (Late x) ⊎ ((T (not b)) × (y ≡ refused x))
+sized-no true n y e = inl (told-late e (omega arith, refl))
+sized-no false n (ok m next) e = inl (late-roomy m next e)
+sized-no false n (refused z) e = inr (tt, e)
+
+-- what 3 and 4, 6 and 7 are
+wrongs : (n : ℕ) → Among n (3 ∷ 4 ∷ []) → (3 ≤ n) × (n ≤ 4)
+wrongs n (inl e) = (omega arith, omega arith)
+wrongs n (inr (inl e)) = (omega arith, omega arith)
+
+lates : (n : ℕ) → Among n (6 ∷ 7 ∷ []) → 6 ≤ n
+lates n (inl e) = omega arith
+lates n (inr (inl e)) = omega arith
+
+late-points : (d : List ℕ) (x : Refusal) → Late x → Points d x
+late-points d x l =
+    record {
+      inside = omega arith;
+      field = λ a. absurd (omega (arith, wrongs (x .number) a .1));
+      wrong = λ a. absurd (omega (arith, wrongs (x .number) a .1));
+      none = λ a. l .1;
+    }
+
+own-points : {A : Type 0} {E : ℕ → Type 0} {r : Reader A} (d : List ℕ) (x : Refusal) (y : Answer A) → Knows E r d 0 (length d) y → y ≡ refused x → Points d x
+own-points {A} {E} {r} d x y s q =
+    let k : Knows E r d 0 (length d) (refused x) = subst (λ (y : Answer A). Knows E r d 0 (length d) y) q s in
+    record {
+      inside = omega (arith, k .to);
+      field = λ a. omega (arith, k .to, blames-wrong (x .number) (x .place) (wrongs (x .number) a .0));
+      wrong = λ a. k .wrong (wrongs (x .number) a .0);
+      none = λ a. absurd (omega (arith, k .low, lates (x .number) a));
+    }
+
+points : {E : ℕ → Type 0} (d : List ℕ) (r : Reader Reference) → Knows E r d 0 (length d) (r d 0 (length d)) → (x : Refusal) → sized d r ≡ refused x → Points d x
+points d r s x e = ⊎-elim (late-points d x) (λ q. own-points d x (r d 0 (length d)) s (q .1)) (sized-no (ltb 65535 (length d)) (length d) (r d 0 (length d)) e)
+
+-- The third figure of a refused reading lies within the slice; where a value is wrong, the field stands there and is wrong; 6 and 7 have 0.
+pub leading-points : (d : List ℕ) (x : Refusal) → readLeading d ≡ refused x → Points d x
+unfolding readLeading
+leading-points d x e = points d readReference (reference-tells .it d 0 (length d) (omega arith)) x e
+
+pub whole-points : (d : List ℕ) (x : Refusal) → readWhole d ≡ refused x → Points d x
+unfolding readWhole
+whole-points d x e = points d (ending place-reference-leftover readReference) (tells-ending {m = 0} place-reference-leftover reference-tells .it d 0 (length d) (omega arith)) x e
+
+-- The same of the 8-bit name, which has no such value.
+pub short-points : (d : List ℕ) (x : Refusal) → readShortName d ≡ refused x → Points d x
+unfolding readShortName
+short-points d x e = go (ltb 65535 (length d)) e
+  where
+    go : (b : Bool) → pick b (refused (refusal 6 0 (length d) 65535)) (readShort d 0 (length d)) ≡ refused x → Points d x
+    go true q = late-points d x (told-late q (omega arith, refl))
+    go false q = own-points d x (readShort d 0 (length d)) (short-tells .it d 0 (length d) (omega arith)) q
+
+-- ---- nothing behind the field is to blame
+
+-- where a value is wrong in d, the reader refuses so whatever stands behind the field
+reference-blamed : (d e : List ℕ) (x : Refusal) → Among (x .number) (3 ∷ 4 ∷ []) → Alike d e x → readReference d 0 (length d) ≡ refused x → readReference e 0 (length e) ≡ refused x
+reference-blamed d e x a l q =
+    let (three, four) = wrongs (x .number) a in
+    reference-tells .it d 0 (length d) (omega arith) .same e (length e) (x .offset + width (x .place)) (l .long) (l .same)
+    (subst (λ (y : Answer Reference). Sure y) (sym q) three) (subst (λ (y : Answer Reference). reach y ≤ x .offset + width (x .place)) (sym q) (omega (arith, blames-wrong (x .number) (x .place) three))) ∙ q
+
+sized-blamed : (d e : List ℕ) (r : Reader Reference) (x : Refusal) → Among (x .number) (3 ∷ 4 ∷ []) → Alike d e x
+    → (r d 0 (length d) ≡ refused x → r e 0 (length e) ≡ refused x) → sized d r ≡ refused x → sized e r ≡ refused x
+sized-blamed d e r x a l h q =
+    ⊎-elim (λ z. absurd (omega (arith, wrongs (x .number) a .1)))
+    (λ p.
+    guard-pass (ltb 65535 (length e)) (refused (refusal 6 0 (length e) 65535)) (followed (r e 0 (length e)) roomy) (not-ltb 65535 (length e) (l .small))
+    ∙ ap (λ (y : Answer Reference). followed y roomy) (h (p .1)))
+    (sized-no (ltb 65535 (length d)) (length d) (r d 0 (length d)) q)
+
+-- Where a value is wrong (3, 4), every slice of at least this length, up to 65,535, that agrees with this one up to the end of the field is refused
+-- with the same refusal: nothing behind the field is to blame.
+pub leading-blamed : (d e : List ℕ) (x : Refusal) → Among (x .number) (3 ∷ 4 ∷ []) → Alike d e x → readLeading d ≡ refused x → readLeading e ≡ refused x
+unfolding readLeading
+leading-blamed d e x a l q = sized-blamed d e readReference x a l (reference-blamed d e x a l) q
+
+-- leftover octets are no wrong value
+ending-wrong : (place end : ℕ) (y : Answer Reference) {x : Refusal} → 3 ≤ x .number → followed y (λ m next. pick (eqb next end) (ok m next) (refused (leftAt place next end))) ≡ refused x → y ≡ refused x
+ending-wrong place end (refused z) h e = e
+ending-wrong place end (ok m next) {x} h e = go (eqb next end) e
+  where
+    go : (b : Bool) → pick b (ok m next) (refused (leftAt place next end)) ≡ refused x → ok m next ≡ refused x
+    go true q = q
+    go false q = let z : 1 ≡ x .number = cc in absurd (omega arith)
+
+pub whole-blamed : (d e : List ℕ) (x : Refusal) → Among (x .number) (3 ∷ 4 ∷ []) → Alike d e x → readWhole d ≡ refused x → readWhole e ≡ refused x
+unfolding readWhole ending
+whole-blamed d e x a l q =
+    sized-blamed d e (ending place-reference-leftover readReference) x a l
+    (λ p. ending-no e 0 (length e) place-reference-leftover readReference (reference-blamed d e x a l (ending-wrong place-reference-leftover (length d) (readReference d 0 (length d)) (wrongs (x .number) a .0) p))) q
