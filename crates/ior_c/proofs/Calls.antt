@@ -19,7 +19,7 @@ use Rattle.survey.specs.Exact.{exact}
 use Rattle.survey.specs.Uncut.{Uncut}
 use Rattle.survey.proofs.Every.{and-left, and-right}
 use Rattle.survey.proofs.Uncut.{exact-exactly}
-use Rattle.ior_c.specs.Said.{numberOf, numbersOf, Tells, Gives, sized, askable, tapAsked}
+use Rattle.ior_c.specs.Said.{answerSize, numberOf, numbersOf, Tells, Gives, sized, askable, tapAsked}
 
 module _ {asked : Bool} {n : ℕ} {l a : List ℕ} where
   pub told : {r : ℕ} {b : List ℕ} → asked ≡ true → r ≡ n → b ≡ l → Tells asked n l a r b
@@ -88,18 +88,18 @@ unasked-exactly {asked} {x} {r = r} small t = (
 module _ (n array answer : ℕ) where
   pub not-sized : array ≢ n → sized n array answer ≡ false
   unfolding sized
-  not-sized h = ap (λ (b : Bool). b && eqb answer 5) (ne-eqb array n h)
+  not-sized h = ap (λ (b : Bool). b && eqb answer answerSize) (ne-eqb array n h)
 
-  pub sized-by-answer : array ≡ n → sized n array answer ≡ eqb answer 5
+  pub sized-by-answer : array ≡ n → sized n array answer ≡ eqb answer answerSize
   unfolding sized
-  sized-by-answer e = ap (λ (b : Bool). b && eqb answer 5) (eq-eqb array n e)
+  sized-by-answer e = ap (λ (b : Bool). b && eqb answer answerSize) (eq-eqb array n e)
 
-  pub is-sized : array ≡ n → answer ≡ 5 → sized n array answer ≡ true
-  is-sized e f = sized-by-answer e ∙ eq-eqb answer 5 f
+  pub is-sized : array ≡ n → answer ≡ answerSize → sized n array answer ≡ true
+  is-sized e f = sized-by-answer e ∙ eq-eqb answer answerSize f
 
-  pub lengths : sized n array answer ≡ true → (array ≡ n) × (answer ≡ 5)
+  pub lengths : sized n array answer ≡ true → (array ≡ n) × (answer ≡ answerSize)
   unfolding sized
-  lengths e = (eqb-true array n (and-left (eqb array n) (eqb answer 5) e), eqb-true answer 5 (and-right (eqb array n) (eqb answer 5) e))
+  lengths e = (eqb-true array n (and-left (eqb array n) (eqb answer answerSize) e), eqb-true answer answerSize (and-right (eqb array n) (eqb answer answerSize) e))
 
 module _ (t : List ℕ) (answer : ℕ) where
   pub not-askable : sized tableSize (length t) answer ≡ false → askable t answer ≡ false
@@ -111,7 +111,7 @@ module _ (t : List ℕ) (answer : ℕ) where
   askable-by-table e = ap (λ (b : Bool). b && exact t) e
 
   -- with arrays of the right lengths, exactly if no number of the table is cut
-  pub unaskable-exactly : Lent t → answer ≡ 5 → (askable t answer ≡ false) ↔ (Uncut t → ⊥)
+  pub unaskable-exactly : Lent t → answer ≡ answerSize → (askable t answer ≡ false) ↔ (Uncut t → ⊥)
   unaskable-exactly l f =
       let e = exact-exactly t l in
       let k = askable-by-table (is-sized tableSize (length t) answer l f) in (
@@ -119,7 +119,7 @@ module _ (t : List ℕ) (answer : ℕ) where
         λ never. k ∙ by-test {P = exact t ≡ false} (exact t) (λ x. absurd (never (e .0 x))) (λ x. x),
       )
 
-  pub askable-lengths : askable t answer ≡ true → (Lent t) × (answer ≡ 5)
+  pub askable-lengths : askable t answer ≡ true → (Lent t) × (answer ≡ answerSize)
   unfolding askable
   askable-lengths e = lengths tableSize (length t) answer (and-left (sized tableSize (length t) answer) (exact t) e)
 

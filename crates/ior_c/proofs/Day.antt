@@ -22,24 +22,24 @@ use Rattle.reference.proofs.Saying.{same-said}
 use Rattle.reference.proofs.Same.{same-both, used-shows, used-agrees, canon-twice, copy-leads, copy-octets, copy-read}
 use Rattle.table.specs.Flat.{tablesFrom}
 use Rattle.reading.proofs.Lent.{Taken, leading-taken}
-use Rattle.ior_c.specs.Said.{numberOf}
+use Rattle.ior_c.specs.Said.{numberOf, numbersOf}
 use Rattle.ior_c.specs.Promises.{Read, Day, Kept}
 use Rattle.ior_c.proofs.Readings.{leading, wholly, read-zero, read-sized, whole-is-leading}
 use Rattle.ior_c.proofs.Writings.{left-written}
 
 -- a reading of s that answered 0
 module _ (s : List ℕ) (o : Octets s) (x : Read s) where
-  read-told : x .result ≡ 0 → (x .told ≡ 0 ∷ 0 ∷ 0 ∷ 0 ∷ length s ∷ []) × (Taken s (x .table) (x .left) (length s))
+  read-told : x .result ≡ 0 → (x .told ≡ numbersOf (Count (length s))) × (Taken s (x .table) (x .left) (length s))
   read-told z =
       let (c, n) = whole-is-leading s o (x .table) (x .answer) (x .result) (x .told) (x .left) (x .call) z in
       let k = read-zero (readLeading s) (leading s) (x .table) (x .answer) (x .result) (x .told) (x .left) c z in
       let q : k .count ≡ length s = sym (ap (λ (v : List ℕ). getD v 4 0) (k .told)) ∙ n in
-      (k .told ∙ ap (λ (i : ℕ). 0 ∷ 0 ∷ 0 ∷ 0 ∷ i ∷ []) q, leading-taken s o (x .table) (x .left) (x .lent) (Count (k .count)) (length s) (ap Count q) (k .into))
+      (k .told ∙ ap (λ (i : ℕ). numbersOf (Count i)) q, leading-taken s o (x .table) (x .left) (x .lent) (Count (k .count)) (length s) (ap Count q) (k .into))
 
   -- it answers 0 where the definition accepts
   read-accepts : (m : Reference) (n : ℕ) → readWhole s ≡ ok m n → x .result ≡ 0
   read-accepts m n e =
-      let (p, q, i) = read-sized (readWhole s) (wholly s) (x .table) (x .answer) (x .result) (x .told) (x .left) (x .call) (x .lent) (x .five) in
+      let (p, q, i) = read-sized (readWhole s) (wholly s) (x .table) (x .answer) (x .result) (x .told) (x .left) (x .call) (x .lent) (x .six) in
       p ∙ ap (λ (y : Answer Reference). numberOf (answered y .answer)) e
 
 pub kept : (s : List ℕ) → Octets s → (day : Day s) → (m : Reference) × (Leads s m (length s)) × (Kept s day m)
@@ -58,7 +58,7 @@ kept s o day =
     let s₂ : SameUsed t₂ (tabled (tablesOf m)) = subst (λ (x : Reference). SameUsed t₂ (tabled (tablesOf x))) same (k₂ .same) in
     -- written
     let w = day .copy in
-    let (z₃, told₃, left₃, back) = left-written s (day .again .table) (day .again .left) n (day .again .lent) k₂ (w .output) (w .answer) (w .result) (w .told) (w .left) (w .five) (day .room) (w .call) in
+    let (z₃, told₃, left₃, back) = left-written s (day .again .table) (day .again .left) n (day .again .lent) k₂ (w .output) (w .answer) (w .result) (w .told) (w .left) (w .six) (day .room) (w .call) in
     -- the copy
     let copy = take n (leaves t₂ s (w .output)) in
     let here : take n (w .left) ≡ copy = ap (take n) left₃ in
@@ -85,7 +85,7 @@ kept s o day =
         equal = same-both s₂ (k₁ .same);
         copied = (z₃, told₃ ∙ sym told₁);
         back = subst (λ (x : Reference). GivesBack s x n (w .output) (w .left)) same back;
-        after = (z₄, told₄ ∙ ap (λ (i : ℕ). 0 ∷ 0 ∷ 0 ∷ 0 ∷ i ∷ []) long ∙ sym told₁);
+        after = (z₄, told₄ ∙ ap (λ (i : ℕ). numbersOf (Count i)) long ∙ sym told₁);
         stands = same-both (subst (λ (u : Used). SameUsed t₄ (tabled u)) tables (k₄ .same)) (k₁ .same);
         says =
             ap (λ (x : List ℕ). said x t₄) here

@@ -40,7 +40,7 @@ use Rattle.survey.specs.Uncut.{Uncut}
 use Rattle.reading.specs.Lent.{ShowsInto}
 use Rattle.reading.proofs.Valued.{leading-good, whole-good}
 use Rattle.reading.proofs.Lent.{Taken, leading-taken, lent-read-back}
-use Rattle.ior_c.specs.Said.{numberOf, numbersOf, askable, truth}
+use Rattle.ior_c.specs.Said.{answerSize, numberOf, numbersOf, askable, truth}
 use Rattle.ior_c.specs.Calls.{IorRead, IorReadWhole, IorLength, IorWrite, IorKind, IorTap, IorFirstBiop, IorDvbAddress, IorNameRead, IorNameWrite}
 use Rattle.ior_c.specs.Promises.{SameLength, Day, Kept}
 use Rattle.ior_c.proofs.Calls.{asked-given, unasked-given, unasked-told, unaskable-exactly, tells-alike, gives-alike}
@@ -57,12 +57,12 @@ module _ (s : List ℕ) (o : Octets s) (t a : List ℕ) (r : ℕ) (b e : List �
       let q : k .count ≡ getD b 4 0 = sym (ap (λ (v : List ℕ). getD v 4 0) (k .told)) in
       (k, leading-taken s o t e (k .lent) (Count (k .count)) (getD b 4 0) (ap Count q) (k .into))
 
-  zeros : reading.ReadZero (readLeading s) t a b e → 0 ∷ 0 ∷ 0 ∷ 0 ∷ getD b 4 0 ∷ [] ≡ b
-  zeros k = ap (λ (i : List ℕ). 0 ∷ 0 ∷ 0 ∷ 0 ∷ getD i 4 0 ∷ []) (k .told) ∙ sym (k .told)
+  zeros : reading.ReadZero (readLeading s) t a b e → numbersOf (Count (getD b 4 0)) ≡ b
+  zeros k = ap (λ (i : List ℕ). numbersOf (Count (getD i 4 0))) (k .told) ∙ sym (k .told)
 
   -- DEMAND 3. With arrays of the right lengths, a slice of up to 65,535 octets is accepted with n octets and the used entries u exactly when its first n
   -- octets are the layout of a well-formed meaning that fits the tables, and u are that meaning's.
-  pub c-accepts-exactly : Lent t → length a ≡ 5 → length s ≤ 65535 → (n : ℕ) (u : Used)
+  pub c-accepts-exactly : Lent t → length a ≡ answerSize → length s ≤ 65535 → (n : ℕ) (u : Used)
       → ((r ≡ 0) × (getD b 4 0 ≡ n) × (usedOf (tablesFrom e) ≡ u)) ↔ ((m : Reference) × (Leads s m n) × (u ≡ tablesOf m))
   c-accepts-exactly l f small n u =
       let x = reading.read-exactly (readLeading s) (reading.leading s) t a r b e c l f (leading-good s o) n u in (
@@ -85,38 +85,38 @@ module _ (s : List ℕ) (o : Octets s) (t a : List ℕ) (r : ℕ) (b e : List �
       (x, n, subst (λ (i : ℕ). Among i (1 ∷ 2 ∷ 3 ∷ 4 ∷ 6 ∷ 7 ∷ [])) (sym n) (leading-numbers s x q), told, left)
 
   -- The table that an accepted reading left can be asked of: no number of it is cut, whatever source and output it is measured and written with.
-  pub c-read-is-askable : r ≡ 0 → askable e 5 ≡ true
-  c-read-is-askable z = let (k, w) = taken z in writing.left-askable s t e (getD b 4 0) (k .lent) w 5 refl
+  pub c-read-is-askable : r ≡ 0 → askable e answerSize ≡ true
+  c-read-is-askable z = let (k, w) = taken z in writing.left-askable s t e (getD b 4 0) (k .lent) w answerSize refl
 
-  pub c-write-after-read-is-asked : r ≡ 0 → (s′ d a′ : List ℕ) (r′ : ℕ) (b′ f : List ℕ) → length a′ ≡ 5 → IorWrite e s′ d a′ r′ b′ f → r′ ≢ 255
-  c-write-after-read-is-asked z s′ d a′ r′ b′ f five w never =
+  pub c-write-after-read-is-asked : r ≡ 0 → (s′ d a′ : List ℕ) (r′ : ℕ) (b′ f : List ℕ) → length a′ ≡ answerSize → IorWrite e s′ d a′ r′ b′ f → r′ ≢ 255
+  c-write-after-read-is-asked z s′ d a′ r′ b′ f six w never =
       let (k, x) = taken z in
       let no = writing.writing-unasked e s′ a′ r′ b′ d f w .0 never in
-      let yes = writing.left-askable s t e (getD b 4 0) (k .lent) x (length a′) five in
+      let yes = writing.left-askable s t e (getD b 4 0) (k .lent) x (length a′) six in
       let i : _≡_ {A = ℕ} 0 1 = cc in
       omega arith
 
   -- Measuring it over the same octets tells the part's length, with the very answer of the reading.
-  pub c-length-is-read : r ≡ 0 → (a′ : List ℕ) (r′ : ℕ) (b′ : List ℕ) → length a′ ≡ 5 → IorLength e s a′ r′ b′ → (r′ ≡ 0) × (b′ ≡ b)
-  c-length-is-read z a′ r′ b′ five w =
+  pub c-length-is-read : r ≡ 0 → (a′ : List ℕ) (r′ : ℕ) (b′ : List ℕ) → length a′ ≡ answerSize → IorLength e s a′ r′ b′ → (r′ ≡ 0) × (b′ ≡ b)
+  c-length-is-read z a′ r′ b′ six w =
       let (k, x) = taken z in
-      let (p, q) = writing.left-measured s t e (getD b 4 0) (k .lent) x a′ r′ b′ five w in
+      let (p, q) = writing.left-measured s t e (getD b 4 0) (k .lent) x a′ r′ b′ six w in
       (p, q ∙ zeros k)
 
   -- Writing it over the same octets into any output with room is accepted with the part's length and gives the part back: at every index but the seven
   -- constants of each address the octets are equal, and behind the part the output is as before.
-  pub c-write-gives-back : r ≡ 0 → (d a′ : List ℕ) (r′ : ℕ) (b′ f : List ℕ) → length a′ ≡ 5 → getD b 4 0 ≤ length d → IorWrite e s d a′ r′ b′ f
+  pub c-write-gives-back : r ≡ 0 → (d a′ : List ℕ) (r′ : ℕ) (b′ f : List ℕ) → length a′ ≡ answerSize → getD b 4 0 ≤ length d → IorWrite e s d a′ r′ b′ f
       → (m : Reference) × (Leads s m (getD b 4 0)) × (r′ ≡ 0) × (b′ ≡ b) × (GivesBack s m (getD b 4 0) d f)
-  c-write-gives-back z d a′ r′ b′ f five room w =
+  c-write-gives-back z d a′ r′ b′ f six room w =
       let (k, x) = taken z in
-      let (p, q, l, g) = writing.left-written s t e (getD b 4 0) (k .lent) x d a′ r′ b′ f five room w in
+      let (p, q, l, g) = writing.left-written s t e (getD b 4 0) (k .lent) x d a′ r′ b′ f six room w in
       (x .meaning, x .leads, p, q ∙ zeros k, g)
 
 -- ---- ior_read_whole
 
 module _ (s : List ℕ) (o : Octets s) (t a : List ℕ) (r : ℕ) (b e : List ℕ) (c : IorReadWhole s t a r b e) where
   -- The same of a whole slice, with n its length.
-  pub c-accepts-whole-exactly : Lent t → length a ≡ 5 → length s ≤ 65535 → (n : ℕ) (u : Used)
+  pub c-accepts-whole-exactly : Lent t → length a ≡ answerSize → length s ≤ 65535 → (n : ℕ) (u : Used)
       → ((r ≡ 0) × (getD b 4 0 ≡ n) × (usedOf (tablesFrom e) ≡ u)) ↔ ((m : Reference) × (Leads s m n) × (n ≡ length s) × (u ≡ tablesOf m))
   c-accepts-whole-exactly l f small n u =
       let x = reading.read-exactly (readWhole s) (reading.wholly s) t a r b e c l f (whole-good s o) n u in (
@@ -152,10 +152,10 @@ module _ (t s d a : List ℕ) (r : ℕ) (b f : List ℕ) (c : IorWrite t s d a r
   c-unasked-writing-leaves-all z = let (n, p, q) = unasked-given c (writing.writing-unasked t s a r b d f c .0 z) in (p, q)
 
   -- No number is cut: with arrays of the right lengths the result is 255 exactly if some used entry would not be told as it stands.
-  pub c-cuts-no-number : Lent t → length a ≡ 5 → (r ≡ 255) ↔ (Uncut t → ⊥)
-  c-cuts-no-number l five =
+  pub c-cuts-no-number : Lent t → length a ≡ answerSize → (r ≡ 255) ↔ (Uncut t → ⊥)
+  c-cuts-no-number l six =
       let u = writing.writing-unasked t s a r b d f c in
-      let x = unaskable-exactly t (length a) l five in
+      let x = unaskable-exactly t (length a) l six in
       (λ z. x .0 (u .0 z), λ never. u .1 (x .1 never))
 
   -- 0: the image stands at the front, as long as the answer tells, and behind it the output is as before.
@@ -167,24 +167,24 @@ module _ (t s d a : List ℕ) (r : ℕ) (b f : List ℕ) (c : IorWrite t s d a r
   -- DEMAND 3, the other way: what is written, with no opaque profile under a known tag, is read back from the output itself, into any table, with equal
   -- contents.
   pub c-written-reads-back : Octets s → Octets d → length d ≤ 65535 → Words t → Each Unknown (usedOf (tablesFrom t) .profiles) → r ≡ 0
-      → (t′ a′ : List ℕ) (r′ : ℕ) (b′ e′ : List ℕ) → Lent t′ → length a′ ≡ 5 → IorRead f t′ a′ r′ b′ e′
+      → (t′ a′ : List ℕ) (r′ : ℕ) (b′ e′ : List ℕ) → Lent t′ → length a′ ≡ answerSize → IorRead f t′ a′ r′ b′ e′
       → (r′ ≡ 0) × (b′ ≡ b) × (ReadsBack (tablesFrom t) s (getD b 4 0) f (taking (getD b 4 0) (tablesFrom e′)))
-  c-written-reads-back o od small y u z t′ a′ r′ b′ e′ l five w =
+  c-written-reads-back o od small y u z t′ a′ r′ b′ e′ l six w =
       let (h, v, e, q) = writing.write-zero t s d a r b f c z in
       let n = getD b 4 0 in
       let typed = told-typed t y in
       let of : Octets f = subst Octets (sym q) (output-octets (tablesFrom t) s d o od typed n e) in
       let back : ReadsBack (tablesFrom t) s n f (answered (readLeading f)) =
       subst (λ (x : List ℕ). ReadsBack (tablesFrom t) s n x (answered (readLeading x))) (sym q) (output-reads-back (tablesFrom t) s d o od small typed u n e) in
-      let (p, g, i) = reading.read-sized (readLeading f) (reading.leading f) t′ a′ r′ b′ e′ w l five in
+      let (p, g, i) = reading.read-sized (readLeading f) (reading.leading f) t′ a′ r′ b′ e′ w l six in
       let k = lent-read-back (readLeading f) (leading-good f of) (tablesFrom t) s n f back t′ e′ (answered (readLeading f) .answer) l i in
       (p ∙ ap numberOf (k .answers), g ∙ ap numbersOf (k .answers) ∙ sym v, record { answers = refl; says = k .says; means = k .means })
 
   -- The octets that were written, read as a whole slice: the same, whatever the output's length.
   pub c-image-reads-back : Octets s → Words t → Each Unknown (usedOf (tablesFrom t) .profiles) → r ≡ 0
-      → (t′ a′ : List ℕ) (r′ : ℕ) (b′ e′ : List ℕ) → Lent t′ → length a′ ≡ 5 → IorReadWhole (take (getD b 4 0) f) t′ a′ r′ b′ e′
+      → (t′ a′ : List ℕ) (r′ : ℕ) (b′ e′ : List ℕ) → Lent t′ → length a′ ≡ answerSize → IorReadWhole (take (getD b 4 0) f) t′ a′ r′ b′ e′
       → (r′ ≡ 0) × (b′ ≡ b) × (ReadsBack (tablesFrom t) s (getD b 4 0) (take (getD b 4 0) f) (taking (getD b 4 0) (tablesFrom e′)))
-  c-image-reads-back o y u z t′ a′ r′ b′ e′ l five w =
+  c-image-reads-back o y u z t′ a′ r′ b′ e′ l six w =
       let (h, v, e, q) = writing.write-zero t s d a r b f c z in
       let n = getD b 4 0 in
       let x = take n f in
@@ -193,7 +193,7 @@ module _ (t s d a : List ℕ) (r : ℕ) (b f : List ℕ) (c : IorWrite t s d a r
       let ox : Octets x = subst Octets j (image-octets (tablesFrom t) s d o typed n e) in
       let back : ReadsBack (tablesFrom t) s n x (answered (readWhole x)) =
       subst (λ (i : List ℕ). ReadsBack (tablesFrom t) s n i (answered (readWhole i))) j (written-reads-whole (tablesFrom t) s d o typed u n e) in
-      let (p, g, i) = reading.read-sized (readWhole x) (reading.wholly x) t′ a′ r′ b′ e′ w l five in
+      let (p, g, i) = reading.read-sized (readWhole x) (reading.wholly x) t′ a′ r′ b′ e′ w l six in
       let k = lent-read-back (readWhole x) (whole-good x ox) (tablesFrom t) s n x back t′ e′ (answered (readWhole x) .answer) l i in
       (p ∙ ap numberOf (k .answers), g ∙ ap numbersOf (k .answers) ∙ sym v, record { answers = refl; says = k .says; means = k .means })
 
@@ -214,10 +214,10 @@ module _ (t s a : List ℕ) (r : ℕ) (b : List ℕ) (c : IorLength t s a r b) w
   pub c-unasked-measuring-leaves-all : r ≡ 255 → b ≡ a
   c-unasked-measuring-leaves-all z = unasked-told c (writing.measuring-unasked t s a r b c .0 z) .1
 
-  pub c-measuring-cuts-no-number : Lent t → length a ≡ 5 → (r ≡ 255) ↔ (Uncut t → ⊥)
-  c-measuring-cuts-no-number l five =
+  pub c-measuring-cuts-no-number : Lent t → length a ≡ answerSize → (r ≡ 255) ↔ (Uncut t → ⊥)
+  c-measuring-cuts-no-number l six =
       let u = writing.measuring-unasked t s a r b c in
-      let x = unaskable-exactly t (length a) l five in
+      let x = unaskable-exactly t (length a) l six in
       (λ z. x .0 (u .0 z), λ never. u .1 (x .1 never))
 
   -- Only used entries are looked at.

@@ -22,7 +22,7 @@ use Rattle.reference.proofs.Promised.{refuses}
 use Rattle.table.specs.Flat.{tablesFrom, tableSize, Lent}
 use Rattle.reading.specs.Into.{tableLeft, ReadInto}
 use Rattle.reading.proofs.Lent.{into-exactly, into-refused, whole-into}
-use Rattle.ior_c.specs.Said.{numberOf, numbersOf, Gives, sized}
+use Rattle.ior_c.specs.Said.{answerSize, numberOf, numbersOf, Gives, sized}
 use Rattle.ior_c.proofs.Calls.{given, asked-given, unasked-given, unasked-exactly, is-sized, lengths}
 
 -- the numbers of refusals are neither 0 nor 255
@@ -37,8 +37,8 @@ Reads x t a r b e = Gives (sized tableSize (length t) (length a)) (answered x .a
 pub record ReadZero (x : Answer Reference) (t a b e : List ℕ) : Type 0 where
   pub count : ℕ
   pub lent : Lent t
-  pub five : length a ≡ 5
-  pub told : b ≡ 0 ∷ 0 ∷ 0 ∷ 0 ∷ count ∷ []
+  pub six : length a ≡ answerSize
+  pub told : b ≡ numbersOf (Count count)
   pub into : ReadInto x t e (Count count)
 
 module _ (x : Answer Reference) (numbered : Numbered x) (t a : List ℕ) (r : ℕ) (b e : List ℕ) (c : Reads x t a r b e) where
@@ -57,7 +57,7 @@ module _ (x : Answer Reference) (numbered : Numbered x) (t a : List ℕ) (r : �
           taken : (n : ℕ) → answered x .answer ≡ Count n → ReadZero x t a b e
           taken n q =
               let (l, f) = lengths tableSize (length t) (length a) h in
-              record { count = n; lent = l; five = f; told = g .1 ∙ ap numbersOf q; into = record { answers = sym q; leaves = g .2 } }
+              record { count = n; lent = l; six = f; told = g .1 ∙ ap numbersOf q; into = record { answers = sym q; leaves = g .2 } }
 
           not : (y : Refusal) → answered x .answer ≡ Refused y → ReadZero x t a b e
           not y q =
@@ -66,7 +66,7 @@ module _ (x : Answer Reference) (numbered : Numbered x) (t a : List ℕ) (r : �
               absurd (omega arith)
 
   -- with arrays of the right lengths, the core's reading
-  pub read-sized : Lent t → length a ≡ 5 → (r ≡ numberOf (answered x .answer)) × (b ≡ numbersOf (answered x .answer)) × (ReadInto x t e (answered x .answer))
+  pub read-sized : Lent t → length a ≡ answerSize → (r ≡ numberOf (answered x .answer)) × (b ≡ numbersOf (answered x .answer)) × (ReadInto x t e (answered x .answer))
   read-sized l f =
       let (p, q, s) = asked-given c (is-sized tableSize (length t) (length a) l f) in
       (p, q, record { answers = refl; leaves = s })
@@ -84,7 +84,7 @@ module _ (x : Answer Reference) (numbered : Numbered x) (t a : List ℕ) (r : �
           (y, refuses x y q, p ∙ ap numberOf q, k ∙ ap numbersOf q, into-refused x t e (answered x .answer) (record { answers = refl; leaves = l }) y q .0))
 
   -- accepted with n octets and the used entries u exactly when the reader answers so
-  pub read-exactly : Lent t → length a ≡ 5 → ((m : Reference) (n : ℕ) → x ≡ ok m n → (WellFormed m) × (Room m)) → (n : ℕ) (u : Used)
+  pub read-exactly : Lent t → length a ≡ answerSize → ((m : Reference) (n : ℕ) → x ≡ ok m n → (WellFormed m) × (Room m)) → (n : ℕ) (u : Used)
       → ((r ≡ 0) × (getD b 4 0 ≡ n) × (usedOf (tablesFrom e) ≡ u)) ↔ ((m : Reference) × (x ≡ ok m n) × (u ≡ tablesOf m))
   read-exactly l f good n u = (
     λ h.
@@ -111,4 +111,4 @@ pub whole-is-leading : (s : List ℕ) → Octets s → (t a : List ℕ) (r : ℕ
 whole-is-leading s o t a r b e c z =
     let k = read-zero (readWhole s) (wholly s) t a r b e c z in
     let (i, n) = whole-into s o t e (Count (k .count)) (k .count) refl (k .into) in
-    (given (is-sized tableSize (length t) (length a) (k .lent) (k .five)) (i .answers) (z, k .told) (i .leaves), ap (λ (v : List ℕ). getD v 4 0) (k .told) ∙ n)
+    (given (is-sized tableSize (length t) (length a) (k .lent) (k .six)) (i .answers) (z, k .told) (i .leaves), ap (λ (v : List ℕ). getD v 4 0) (k .told) ∙ n)

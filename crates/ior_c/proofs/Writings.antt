@@ -22,31 +22,31 @@ use Rattle.survey.proofs.Every.{and-both}
 use Rattle.survey.proofs.Read.{read-exact}
 use Rattle.survey.proofs.Alike.{same-exact}
 use Rattle.reading.proofs.Lent.{Taken}
-use Rattle.ior_c.specs.Said.{numberOf, numbersOf, sized, askable}
+use Rattle.ior_c.specs.Said.{answerSize, numberOf, numbersOf, sized, askable}
 use Rattle.ior_c.specs.Calls.{IorLength, IorWrite}
 use Rattle.ior_c.specs.Promises.{SameLength}
 use Rattle.ior_c.proofs.Calls.{asked-told, unasked-told, asked-given, unasked-given, unasked-exactly, is-sized}
 
 -- the table that an accepted reading left can be asked
-pub left-askable : (s t e : List ℕ) (n : ℕ) → Lent t → Taken s t e n → (a : ℕ) → a ≡ 5 → askable e a ≡ true
+pub left-askable : (s t e : List ℕ) (n : ℕ) → Lent t → Taken s t e n → (a : ℕ) → a ≡ answerSize → askable e a ≡ true
 unfolding askable
 left-askable s t e n l k a f =
     let h = k .leads in
     and-both (is-sized tableSize (length e) a (k .shows .long) f) (ap exact (k .left) ∙ read-exact t l (k .meaning) (h .formed) (h .room))
 
 -- writing the table that an accepted reading left, over the same octets, into an output with room
-pub left-written : (s t e : List ℕ) (n : ℕ) → Lent t → (k : Taken s t e n) → (d a : List ℕ) (r : ℕ) (b f : List ℕ) → length a ≡ 5 → n ≤ length d → IorWrite e s d a r b f
-    → (r ≡ 0) × (b ≡ 0 ∷ 0 ∷ 0 ∷ 0 ∷ n ∷ []) × (f ≡ leaves (tablesFrom e) s d) × (GivesBack s (k .meaning) n d f)
-left-written s t e n l k d a r b f five room w =
-    let (p, q, h) = asked-given w (left-askable s t e n l k (length a) five) in
+pub left-written : (s t e : List ℕ) (n : ℕ) → Lent t → (k : Taken s t e n) → (d a : List ℕ) (r : ℕ) (b f : List ℕ) → length a ≡ answerSize → n ≤ length d → IorWrite e s d a r b f
+    → (r ≡ 0) × (b ≡ numbersOf (Count n)) × (f ≡ leaves (tablesFrom e) s d) × (GivesBack s (k .meaning) n d f)
+left-written s t e n l k d a r b f six room w =
+    let (p, q, h) = asked-given w (left-askable s t e n l k (length a) six) in
     let (v, g) = k .back d room in
     (p ∙ ap numberOf v, q ∙ ap numbersOf v, h, subst (GivesBack s (k .meaning) n d) (sym h) g)
 
 -- measuring it tells the part's length
-pub left-measured : (s t e : List ℕ) (n : ℕ) → Lent t → Taken s t e n → (a : List ℕ) (r : ℕ) (b : List ℕ) → length a ≡ 5 → IorLength e s a r b
-    → (r ≡ 0) × (b ≡ 0 ∷ 0 ∷ 0 ∷ 0 ∷ n ∷ [])
-left-measured s t e n l k a r b five w =
-    let (p, q) = asked-told w (left-askable s t e n l k (length a) five) in
+pub left-measured : (s t e : List ℕ) (n : ℕ) → Lent t → Taken s t e n → (a : List ℕ) (r : ℕ) (b : List ℕ) → length a ≡ answerSize → IorLength e s a r b
+    → (r ≡ 0) × (b ≡ numbersOf (Count n))
+left-measured s t e n l k a r b six w =
+    let (p, q) = asked-told w (left-askable s t e n l k (length a) six) in
     let h = length-is-written (tablesFrom e) s s .length n (k .back s (k .leads .inside) .0) in
     (p ∙ ap numberOf h, q ∙ ap numbersOf h)
 
@@ -69,17 +69,17 @@ alike t t′ l h s d answer = (
 
 -- what a writing call gives where the table can be asked
 module _ (t s d a : List ℕ) (r : ℕ) (b f : List ℕ) (c : IorWrite t s d a r b f) where
-  pub write-zero : r ≡ 0 → (askable t (length a) ≡ true) × (b ≡ 0 ∷ 0 ∷ 0 ∷ 0 ∷ getD b 4 0 ∷ []) × (written (tablesFrom t) s d ≡ Count (getD b 4 0)) × (f ≡ leaves (tablesFrom t) s d)
+  pub write-zero : r ≡ 0 → (askable t (length a) ≡ true) × (b ≡ numbersOf (Count (getD b 4 0))) × (written (tablesFrom t) s d ≡ Count (getD b 4 0)) × (f ≡ leaves (tablesFrom t) s d)
   write-zero z = by-test (askable t (length a)) yes (λ h. let n = unasked-given c h .0 in absurd (omega arith))
     where
-      yes : askable t (length a) ≡ true → (askable t (length a) ≡ true) × (b ≡ 0 ∷ 0 ∷ 0 ∷ 0 ∷ getD b 4 0 ∷ []) × (written (tablesFrom t) s d ≡ Count (getD b 4 0)) × (f ≡ leaves (tablesFrom t) s d)
+      yes : askable t (length a) ≡ true → (askable t (length a) ≡ true) × (b ≡ numbersOf (Count (getD b 4 0))) × (written (tablesFrom t) s d ≡ Count (getD b 4 0)) × (f ≡ leaves (tablesFrom t) s d)
       yes h =
           let (p, q, l) = asked-given c h in
           by-answer (written (tablesFrom t) s d)
           (λ n e.
-          let w : b ≡ 0 ∷ 0 ∷ 0 ∷ 0 ∷ n ∷ [] = q ∙ ap numbersOf e in
+          let w : b ≡ numbersOf (Count n) = q ∙ ap numbersOf e in
           let v : n ≡ getD b 4 0 = sym (ap (λ (y : List ℕ). getD y 4 0) w) in
-          (h, w ∙ ap (λ (i : ℕ). 0 ∷ 0 ∷ 0 ∷ 0 ∷ i ∷ []) v, e ∙ ap Count v, l))
+          (h, w ∙ ap (λ (i : ℕ). numbersOf (Count i)) v, e ∙ ap Count v, l))
           (λ y e.
           let k = writing-number (tablesFrom t) s d y e .0 in
           let n : r ≡ y .number = p ∙ ap numberOf e in
@@ -122,7 +122,7 @@ module _ (t s d a : List ℕ) (r : ℕ) (b f : List ℕ) (c : IorWrite t s d a r
           counts : (n : ℕ) → measured (tablesFrom t) s ≡ Count n → SameLength (imageOf s (tablesFrom t)) q b′ r b
           counts n e =
               let p : q ≡ 0 = told .0 ∙ ap numberOf e in
-              let g : b′ ≡ 0 ∷ 0 ∷ 0 ∷ 0 ∷ n ∷ [] = told .1 ∙ ap numbersOf e in
+              let g : b′ ≡ numbersOf (Count n) = told .1 ∙ ap numbersOf e in
               record {
                 image = λ z. let v = ap (λ (i : List ℕ). getD i 4 0) g in let (k, m) = x .image n e in (k ∙ sym v, omega arith);
                 length = λ z.

@@ -10,6 +10,7 @@ use Rattle.reference.specs.Contents.{said}
 use Rattle.reference.specs.Promises.{GivesBack, SameUsed}
 use Rattle.table.specs.Flat.{tablesFrom, Lent}
 use Rattle.ior_c.specs.Calls.{IorReadWhole, IorWrite}
+use Rattle.ior_c.specs.Said.{answerSize}
 
 -- ior_length answered q and left c, ior_write of the same table answered r and left b: one length, that of the image l; and 6, 8, 9, 10 and 255 alike.
 pub record SameLength (l : List ℕ) (q : ℕ) (c : List ℕ) (r : ℕ) (b : List ℕ) : Type 0 where
@@ -29,7 +30,7 @@ pub record Read (s : List ℕ) : Type 0 where
   pub told : List ℕ
   pub left : List ℕ
   pub lent : Lent table
-  pub five : length answer ≡ 5
+  pub six : length answer ≡ answerSize
   pub call : IorReadWhole s table answer result told left
 
 -- A call of ior_write on a table over the octets s, into an output, with an answer of the right length.
@@ -39,7 +40,7 @@ pub record Copied (table s : List ℕ) : Type 0 where
   pub result : ℕ
   pub told : List ℕ
   pub left : List ℕ
-  pub five : length answer ≡ 5
+  pub six : length answer ≡ answerSize
   pub call : IorWrite table s output answer result told left
 
 -- The octets s come in, and are accepted as a whole. They are stored as they are, and later read again. From the table that this left they are written

@@ -1,4 +1,4 @@
--- What the exported functions answer, in numbers: an answer as five, a kind, a tap's numbers, a name's views; and what holds of the result and the
+-- What the exported functions answer, in numbers: an answer as six, a kind, a tap's numbers, a name's views; and what holds of the result and the
 -- arrays where the call is asked with arrays of the right lengths, and where it is not. Assumes nothing.
 use Prim.Native.Nat.{ℕ}
 use mathlib.Core.Path.{_≡_}
@@ -20,15 +20,18 @@ use Rattle.reference.specs.declared.FirstBiop.the-variants as Firsts
 use Rattle.table.specs.Flat.{nameNumbers, tableSize}
 use Rattle.survey.specs.Exact.{exact}
 
--- ---- an answer: the refusal's number, its place and figures, and the count; what is not named is 0
+-- ---- an answer: the refusal's number, its place and figures, the count, and the offset where a reading broke; what is not named is 0
 
 abbrev pub numberOf : Told → ℕ
 numberOf (Count n) = 0
 numberOf (Refused x) = x .number
 
+abbrev pub answerSize : ℕ
+answerSize = 6
+
 abbrev pub numbersOf : Told → List ℕ
-numbersOf (Count n) = 0 ∷ 0 ∷ 0 ∷ 0 ∷ n ∷ []
-numbersOf (Refused x) = x .number ∷ x .place ∷ x .first ∷ x .second ∷ 0 ∷ []
+numbersOf (Count n) = 0 ∷ 0 ∷ 0 ∷ 0 ∷ n ∷ 0 ∷ []
+numbersOf (Refused x) = x .number ∷ x .place ∷ x .first ∷ x .second ∷ 0 ∷ x .offset ∷ []
 
 -- ---- a call: asked as it must be, it answers n and leaves l in the array a; else it answers 255 and leaves a
 
@@ -36,15 +39,15 @@ pub record Tells (asked : Bool) (n : ℕ) (l a : List ℕ) (r : ℕ) (b : List �
   pub result : r ≡ pick asked n 255
   pub array : b ≡ pick asked l a
 
--- the same of an answer x with its five numbers, and of a second array, which held d, is to hold y, and holds e
+-- the same of an answer x with its six numbers, and of a second array, which held d, is to hold y, and holds e
 pub record Gives (asked : Bool) (x : Told) (y a d : List ℕ) (r : ℕ) (b e : List ℕ) : Type 0 where
   pub tells : Tells asked (numberOf x) (numbersOf x) a r b
   pub leaves : e ≡ pick asked y d
 
--- ---- asked as it must be: an array of n numbers and an answer of five; a table of 490 that is exact, too; a use of 16 bits and a pair of numbers
+-- ---- asked as it must be: an array of n numbers and an answer of six; a table of 490 that is exact, too; a use of 16 bits and a pair of numbers
 
 unfoldable pub sized : ℕ → ℕ → ℕ → Bool
-sized n array answer = eqb array n && eqb answer 5
+sized n array answer = eqb array n && eqb answer answerSize
 
 unfoldable pub askable : List ℕ → ℕ → Bool
 askable t answer = sized tableSize (length t) answer && exact t

@@ -1,13 +1,13 @@
 // The library for firmware in C and in Rust: exported functions over numbers and octets, each lent by its caller as a pointer and a length
-// (include/ior.h). A table has 490 numbers (crate table), an answer five: number, place, both figures, and the count. An array of another length, or
-// a table with a number that is wider than its field, is answered with 255, and nothing is changed. What the arrays hold and how long they are is asked of
+// (include/ior.h). A table has 490 numbers (crate table), an answer six: number, place, both figures, the count, and the offset where a reading broke.
+// An array of another length, or a table with a number that is wider than its field, is answered with 255, and nothing is changed. What the arrays hold and how long they are is asked of
 // no caller; that the pointers are right, C can't check.
 ghost use mathlib.Core.Path.{_≡_};
 ghost use lib.ListN.{length};
 ghost use Rattle.reference.specs.Questions.{firstBiop};
 ghost use Rattle.table.specs.Flat.{tablesFrom, nameFrom, nameNumbers, Lent};
 ghost use Rattle.ior_c.specs.Calls.{IorRead, IorReadWhole, IorLength, IorWrite, IorKind, IorTap, IorFirstBiop, IorDvbAddress, IorNameRead, IorNameWrite};
-ghost use Rattle.ior_c.specs.Said.{numberOf, numbersOf, sized, askable, kindNumber, typeNumber, tapResult, tapPair, firstSaid};
+ghost use Rattle.ior_c.specs.Said.{answerSize, numberOf, numbersOf, sized, askable, kindNumber, typeNumber, tapResult, tapPair, firstSaid};
 use faults::Judged;
 use faults::judge;
 use faults::refusal_of;
@@ -43,15 +43,15 @@ use writing::write_measured;
 pub const NOT_ASKED: u32 = 255;
 
 // How many numbers an answer and a name have.
-pub const ANSWER: usize = 5;
+pub const ANSWER: usize = 6;
 
 pub const NAME: usize = 4;
 
 // ---- what all of them share
 
-// Number, place, both figures and the count; the number is the result too.
+// Number, place, both figures, the count and the offset; the number is the result too.
 fn put_answer(a: Answer, out: &mut [u64]) -> u32
-    requires { ⌜ length (now out) ≡ 5 ⌝ }
+    requires { ⌜ length (now out) ≡ answerSize ⌝ }
     ensures { λ r. ⌜ (r ≡ numberOf a) × (now (out .exit) ≡ numbersOf a) ⌝ }
 {
     match a {
@@ -61,6 +61,7 @@ fn put_answer(a: Answer, out: &mut [u64]) -> u32
             out[2] = 0;
             out[3] = 0;
             out[4] = n as u64;
+            out[5] = 0;
             0
         }
         Answer::Refused(why) => {
@@ -69,12 +70,13 @@ fn put_answer(a: Answer, out: &mut [u64]) -> u32
             out[2] = why.first as u64;
             out[3] = why.second as u64;
             out[4] = 0;
+            out[5] = why.offset as u64;
             why.number as u32
         }
     }
 }
 
-// Whether an array has `size` numbers and the answer beside it five.
+// Whether an array has `size` numbers and the answer beside it six.
 fn is_sized(size: usize, array: usize, answer: usize) -> bool
     ensures { λ r. ⌜ r ≡ sized size array answer ⌝ }
 {

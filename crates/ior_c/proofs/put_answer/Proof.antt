@@ -1,4 +1,4 @@
--- `ior_c::put_answer` meets its contract. Five stores in a row cover the answer. Assumes nothing.
+-- `ior_c::put_answer` meets its contract. Six stores in a row cover the answer. Assumes nothing.
 use mathlib.Core.Path.{sym, ap, _∙_}
 use native.Mathlib.Omega.{arith}
 use lib.ListN.{length-set}
@@ -27,20 +27,20 @@ slice-write-out-4 c = search needs
 slice-write-out-5 : tie.Need-slice-write-out-5
 slice-write-out-5 c = simp length-set (omega arith)
 
+slice-write-out-6 : tie.Need-slice-write-out-6
+slice-write-out-6 c = simp length-set (omega arith)
+
 enum-known-a-2 : tie.Need-enum-known-a-2
 enum-known-a-2 c = search needs
 
 cast-out : tie.Need-cast-out
 cast-out c = search needs
 
-slice-write-out-6 : tie.Need-slice-write-out-6
-slice-write-out-6 c = search needs
+slice-write-out-7 : tie.Need-slice-write-out-7
+slice-write-out-7 c = search needs
 
 cast-out-2 : tie.Need-cast-out-2
 cast-out-2 c = search needs
-
-slice-write-out-7 : tie.Need-slice-write-out-7
-slice-write-out-7 c = search needs
 
 slice-write-out-8 : tie.Need-slice-write-out-8
 slice-write-out-8 c = search needs
@@ -49,7 +49,13 @@ slice-write-out-9 : tie.Need-slice-write-out-9
 slice-write-out-9 c = search needs
 
 slice-write-out-10 : tie.Need-slice-write-out-10
-slice-write-out-10 c = simp length-set (omega arith)
+slice-write-out-10 c = search needs
+
+slice-write-out-11 : tie.Need-slice-write-out-11
+slice-write-out-11 c = simp length-set (omega arith)
+
+slice-write-out-12 : tie.Need-slice-write-out-12
+slice-write-out-12 c = simp length-set (omega arith)
 
 cast-result : tie.Need-cast-result
 cast-result c = search needs
@@ -62,7 +68,7 @@ returns c =
     let s = c .before .before .before in
     let d = s .args .out .now in
     let e = c .before .a .given .1 in
-    (sym (ap numberOf e), more (more (more (more (one d 0 0 (omega arith)) 0 (omega arith)) 0 (omega arith)) 0 (omega arith)) _ (omega arith) .left ∙ covered d _ (sym (s .pre)) ∙ sym (ap numbersOf e))
+    (sym (ap numberOf e), more (more (more (more (more (one d 0 0 (omega arith)) 0 (omega arith)) 0 (omega arith)) 0 (omega arith)) _ (omega arith)) 0 (omega arith) .left ∙ covered d _ (sym (s .pre)) ∙ sym (ap numbersOf e))
 
 same-length-2 : tie.Need-same-length-2
 same-length-2 c = search needs
@@ -72,7 +78,7 @@ returns-2 c =
     let s = c .before .before .before .before .before .before in
     let d = s .args .out .now in
     let e = c .before .before .before .before .a2 .given .1 in
-    (sym (ap numberOf e), more (more (more (more (one d 0 _ (omega arith)) _ (omega arith)) _ (omega arith)) _ (omega arith)) 0 (omega arith) .left ∙ covered d _ (sym (s .pre)) ∙ sym (ap numbersOf e))
+    (sym (ap numberOf e), more (more (more (more (more (one d 0 _ (omega arith)) _ (omega arith)) _ (omega arith)) _ (omega arith)) 0 (omega arith)) _ (omega arith) .left ∙ covered d _ (sym (s .pre)) ∙ sym (ap numbersOf e))
 
 pub put-answer-spec : {M : Type 1} → statement M
 put-answer-spec =
@@ -84,14 +90,16 @@ put-answer-spec =
     slice-write-out-3
     slice-write-out-4
     slice-write-out-5
+    slice-write-out-6
     enum-known-a-2
     cast-out
-    slice-write-out-6
-    cast-out-2
     slice-write-out-7
+    cast-out-2
     slice-write-out-8
     slice-write-out-9
     slice-write-out-10
+    slice-write-out-11
+    slice-write-out-12
     cast-result
     same-length
     returns
