@@ -23,6 +23,8 @@ use Rattle.reference.specs.Placed.{tablesOf}
 use Rattle.reference.specs.Tabled.{tabled, noTables, usedOf}
 use Rattle.reference.specs.Typed.{Typed, Unknown}
 use Rattle.reference.specs.Writer.{imageOf, measured, written, leaves}
+use Rattle.reference.specs.Checks.{Among}
+use Rattle.reference.specs.Where.{Points, Alike}
 use Rattle.reference.specs.Promises.{taking, ShowsFields, GivesBack, ReadsBack, PutInFront, LengthIsWritten, SameUsed}
 use Rattle.reference.specs.Worked as Table
 use Rattle.reference.proofs.Promised as promised
@@ -40,6 +42,7 @@ use Rattle.reference.specs.declared.ObjectKind.{ObjectKind}
 use Rattle.reference.specs.declared.TapNumbers.{TapNumbers}
 use Rattle.reference.specs.declared.FirstBiop.{FirstBiop}
 use Rattle.names.specs.declared.ShortNameRead.{ShortNameRead}
+use Rattle.names.specs.declared.ShortNameRead.the-variants as Names
 use Rattle.names.specs.Told.{shortTold}
 use Rattle.names.specs.Writes as Short
 use Rattle.names.proofs.Promises as names
@@ -133,6 +136,29 @@ pub only-used-matter : (t t′ : Tables) → SameUsed t t′ → (s d : List ℕ
 only-used-matter t t′ h s d r r′ e e′ w w′ =
     let x = measuredly.only-used-matter t t′ h s d in
     (x .measures, w .answers ∙ x .answers ∙ sym (w′ .answers), w .leaves ∙ x .leave ∙ sym (w′ .leaves))
+
+-- ---- where a reading broke (document 02, No. 3)
+
+-- The third figure of a refused reading is an octet of the slice, or its end. Where a value is wrong (3, 4), the field that the place names stands there, and
+-- what it holds is not what it must hold. 6 and 7 have 0.
+pub offset-inside : (s : List ℕ) (r : Reading) → r ≡ answered (readLeading s) → (x : Refusal) → r .answer ≡ Refused x → Points s x
+offset-inside s r c x h = promised.offset-inside s x (sym (ap (λ (y : Reading). y .answer) c) ∙ h)
+
+pub whole-offset-inside : (s : List ℕ) (r : Reading) → r ≡ answered (readWhole s) → (x : Refusal) → r .answer ≡ Refused x → Points s x
+whole-offset-inside s r c x h = promised.whole-offset-inside s x (sym (ap (λ (y : Reading). y .answer) c) ∙ h)
+
+pub name-offset-inside : (s : List ℕ) (r : ShortNameRead) → shortTold r ≡ seen shortAt (readShortName s) → (x : Refusal) → r ≡ Names.Not x → Points s x
+name-offset-inside s r c x h = names.offset-inside s r c x h
+
+-- Nothing behind a wrong value is to blame: every slice of at least this length, up to 65,535, that agrees with this one up to the end of the field is refused
+-- with the very same refusal.
+pub blamed : (s : List ℕ) (r : Reading) → r ≡ answered (readLeading s) → (x : Refusal) → r .answer ≡ Refused x → Among (x .number) (3 ∷ 4 ∷ [])
+    → (s′ : List ℕ) → Alike s s′ x → (r′ : Reading) → r′ ≡ answered (readLeading s′) → r′ .answer ≡ Refused x
+blamed s r c x h a s′ l r′ c′ = ap (λ (y : Reading). y .answer) c′ ∙ promised.blamed s s′ x (sym (ap (λ (y : Reading). y .answer) c) ∙ h) a l
+
+pub whole-blamed : (s : List ℕ) (r : Reading) → r ≡ answered (readWhole s) → (x : Refusal) → r .answer ≡ Refused x → Among (x .number) (3 ∷ 4 ∷ [])
+    → (s′ : List ℕ) → Alike s s′ x → (r′ : Reading) → r′ ≡ answered (readWhole s′) → r′ .answer ≡ Refused x
+whole-blamed s r c x h a s′ l r′ c′ = ap (λ (y : Reading). y .answer) c′ ∙ promised.whole-blamed s s′ x (sym (ap (λ (y : Reading). y .answer) c) ∙ h) a l
 
 -- P1 to P11 of document 01: each question of the table is answered as 01 says.
 pub worked : map (λ q. Table.reply (q .0)) Table.cases ≡ map (λ q. q .1) Table.cases

@@ -19,8 +19,11 @@ use Rattle.reference.specs.Placed.{tablesOf}
 use Rattle.reference.specs.Tabled.{noTables, usedOf}
 use Rattle.reference.specs.Typed.{Unknown}
 use Rattle.reference.specs.Writer.{imageOf}
+use Rattle.reference.specs.Checks.{Among}
+use Rattle.reference.specs.Where.{Points, Alike}
 use Rattle.reference.specs.Promises.{GivesBack, ReadsBack, PutInFront, LengthIsWritten}
 use Rattle.reference.proofs.Accept.{exactly, whole}
+use Rattle.reference.proofs.Promised as promised
 use Rattle.reference.proofs.Written.{output-octets}
 use Rattle.table.specs.Region.{Words}
 use Rattle.table.specs.Flat.{tablesFrom, tableSize, Lent}
@@ -62,6 +65,14 @@ module _ (s : List ℕ) (o : Octets s) (t e : List ℕ) (lent : Lent t) (r : Tol
   pub lent-refused-reading-is-empty : (x : Refusal) → r ≡ Refused x → (e ≡ replicate tableSize 0) × (tablesFrom e ≡ noTables)
   lent-refused-reading-is-empty x h = reading.into-refused (readLeading s) t e r c x h
 
+  -- Where it broke: the third figure points into the slice, a wrong value stands where it points, and nothing behind that is to blame.
+  pub lent-offset-inside : (x : Refusal) → r ≡ Refused x → Points s x
+  lent-offset-inside x h = promised.offset-inside s x (sym (c .answers) ∙ h)
+
+  pub lent-blamed : (x : Refusal) → r ≡ Refused x → Among (x .number) (3 ∷ 4 ∷ [])
+      → (s′ : List ℕ) → Alike s s′ x → (t′ e′ : List ℕ) (r′ : Told) → ReadInto (readLeading s′) t′ e′ r′ → r′ ≡ Refused x
+  lent-blamed x h a s′ l t′ e′ r′ c′ = c′ .answers ∙ promised.blamed s s′ x (sym (c .answers) ∙ h) a l
+
   -- No number of the table that an accepted reading left is cut, and measuring it over the same octets tells the part's length.
   pub lent-read-is-uncut : (n : ℕ) → r ≡ Count n → Uncut e
   lent-read-is-uncut n h = guarded.taken-uncut s t e n lent (reading.leading-taken s o t e lent r n h c)
@@ -97,6 +108,13 @@ module _ (s : List ℕ) (o : Octets s) (t e : List ℕ) (lent : Lent t) (r : Tol
 
   pub lent-refused-whole-is-empty : (x : Refusal) → r ≡ Refused x → (e ≡ replicate tableSize 0) × (tablesFrom e ≡ noTables)
   lent-refused-whole-is-empty x h = reading.into-refused (readWhole s) t e r c x h
+
+  pub lent-whole-offset-inside : (x : Refusal) → r ≡ Refused x → Points s x
+  lent-whole-offset-inside x h = promised.whole-offset-inside s x (sym (c .answers) ∙ h)
+
+  pub lent-whole-blamed : (x : Refusal) → r ≡ Refused x → Among (x .number) (3 ∷ 4 ∷ [])
+      → (s′ : List ℕ) → Alike s s′ x → (t′ e′ : List ℕ) (r′ : Told) → ReadInto (readWhole s′) t′ e′ r′ → r′ ≡ Refused x
+  lent-whole-blamed x h a s′ l t′ e′ r′ c′ = c′ .answers ∙ promised.whole-blamed s s′ x (sym (c .answers) ∙ h) a l
 
 -- ---- write_from and length_from: t is any table of u32, read or made by the caller
 

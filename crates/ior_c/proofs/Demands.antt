@@ -13,11 +13,14 @@ use lib.Dec.{T, eqb}
 use Rattle.octets.specs.Octets.{Octets, Each}
 use Rattle.reference.specs.declared.Answer.the-variants.{Count, Refused}
 use Rattle.reference.specs.declared.Refusal.{Refusal}
+use Rattle.reference.specs.declared.NameComponent.{NameComponent}
 use Rattle.reference.specs.Meaning.{Reference, Address}
 use Rattle.reference.specs.Layout.{Leads}
 use Rattle.reference.specs.Checks.{Among}
+use Rattle.reference.specs.Where.{Points, Alike}
 use Rattle.reference.specs.Reader.{readLeading, readWhole, readAddress, answered}
-use Rattle.reference.specs.Steps.{ok}
+use Rattle.reference.specs.Steps.{Answer, ok, refused, seen}
+use Rattle.reference.specs.Names.{readShortName, shortAt}
 use Rattle.reference.specs.Questions.{dvbAddress, DvbAddress, dvbOctets}
 use Rattle.reference.specs.Used.{Used}
 use Rattle.reference.specs.Placed.{tablesOf}
@@ -27,8 +30,10 @@ use Rattle.reference.specs.Writer.{imageOf, written}
 use Rattle.reference.specs.Promises.{taking, GivesBack, ReadsBack, PutInFront}
 use Rattle.reference.proofs.Accept.{exactly, whole}
 use Rattle.reference.proofs.Cases.{by-test, by-answer}
+use Rattle.reference.proofs.Steps.{seen-no}
 use Rattle.reference.proofs.Numbers.{leading-numbers, whole-numbers}
 use Rattle.reference.proofs.Asked.{picks-first}
+use Rattle.reference.proofs.Blame as blame
 use Rattle.reference.proofs.Addresses as addresses
 use Rattle.reference.proofs.Written.{output-reads-back, written-reads-whole, image-octets, output-octets}
 use Rattle.reference.proofs.Measured.{refused-writing-leaves-all, accepted-writing-puts}
@@ -40,7 +45,7 @@ use Rattle.survey.specs.Uncut.{Uncut}
 use Rattle.reading.specs.Lent.{ShowsInto}
 use Rattle.reading.proofs.Valued.{leading-good, whole-good}
 use Rattle.reading.proofs.Lent.{Taken, leading-taken, lent-read-back}
-use Rattle.ior_c.specs.Said.{answerSize, numberOf, numbersOf, askable, truth}
+use Rattle.ior_c.specs.Said.{answerSize, numberOf, numbersOf, sized, askable, truth, nameSaid}
 use Rattle.ior_c.specs.Calls.{IorRead, IorReadWhole, IorLength, IorWrite, IorKind, IorTap, IorFirstBiop, IorDvbAddress, IorNameRead, IorNameWrite}
 use Rattle.ior_c.specs.Promises.{SameLength, Day, Kept}
 use Rattle.ior_c.proofs.Calls.{asked-given, unasked-given, unasked-told, unaskable-exactly, tells-alike, gives-alike}
@@ -83,6 +88,23 @@ module _ (s : List ℕ) (o : Octets s) (t a : List ℕ) (r : ℕ) (b e : List �
   c-refused-reading-is-empty z w =
       let (x, q, n, told, left) = reading.read-refused (readLeading s) (reading.leading s) t a r b e c z w in
       (x, n, subst (λ (i : ℕ). Among i (1 ∷ 2 ∷ 3 ∷ 4 ∷ 6 ∷ 7 ∷ [])) (sym n) (leading-numbers s x q), told, left)
+
+  -- Where it broke. The sixth number points into s; where a value is wrong (3, 4), the field that the place names stands there and is wrong; 6 and 7 have 0.
+  pub c-offset-inside : r ≢ 0 → r ≢ 255 → (x : Refusal) × (b ≡ numbersOf (Refused x)) × (Points s x)
+  c-offset-inside z w = let (x, q, n, told, left) = reading.read-refused (readLeading s) (reading.leading s) t a r b e c z w in (x, told, blame.leading-points s x q)
+
+  -- Nothing behind a wrong value is to blame: of every array s′ of octets that is not shorter, up to 65,535, and agrees with s up to the end of the field, a call
+  -- with arrays of the right lengths tells the same.
+  pub c-blamed : Among r (3 ∷ 4 ∷ []) → (x : Refusal) × (b ≡ numbersOf (Refused x))
+      × ((s′ : List ℕ) → Alike s s′ x → (t′ a′ : List ℕ) (r′ : ℕ) (b′ e′ : List ℕ) → Lent t′ → length a′ ≡ answerSize → IorRead s′ t′ a′ r′ b′ e′ → (r′ ≡ r) × (b′ ≡ b))
+  c-blamed h =
+      let (x, q, k, n, told) = reading.read-wrong (readLeading s) (reading.leading s) t a r b e c h in (
+        x,
+        told,
+        λ s′ l t′ a′ r′ b′ e′ lent six c′.
+            let (m, v) = reading.refused-told (readLeading s′) (reading.leading s′) t′ a′ r′ b′ e′ c′ (blame.leading-blamed s s′ x k l q) lent six in
+            (m ∙ sym n, v ∙ sym told),
+      )
 
   -- The table that an accepted reading left can be asked of: no number of it is cut, whatever source and output it is measured and written with.
   pub c-read-is-askable : r ≡ 0 → askable e answerSize ≡ true
@@ -136,6 +158,20 @@ module _ (s : List ℕ) (o : Octets s) (t a : List ℕ) (r : ℕ) (b e : List �
   c-refused-whole-is-empty z w =
       let (x, q, n, told, left) = reading.read-refused (readWhole s) (reading.wholly s) t a r b e c z w in
       (x, n, subst (λ (i : ℕ). Among i (1 ∷ 2 ∷ 3 ∷ 4 ∷ 6 ∷ 7 ∷ [])) (sym n) (whole-numbers s x q), told, left)
+
+  pub c-whole-offset-inside : r ≢ 0 → r ≢ 255 → (x : Refusal) × (b ≡ numbersOf (Refused x)) × (Points s x)
+  c-whole-offset-inside z w = let (x, q, n, told, left) = reading.read-refused (readWhole s) (reading.wholly s) t a r b e c z w in (x, told, blame.whole-points s x q)
+
+  pub c-whole-blamed : Among r (3 ∷ 4 ∷ []) → (x : Refusal) × (b ≡ numbersOf (Refused x))
+      × ((s′ : List ℕ) → Alike s s′ x → (t′ a′ : List ℕ) (r′ : ℕ) (b′ e′ : List ℕ) → Lent t′ → length a′ ≡ answerSize → IorReadWhole s′ t′ a′ r′ b′ e′ → (r′ ≡ r) × (b′ ≡ b))
+  c-whole-blamed h =
+      let (x, q, k, n, told) = reading.read-wrong (readWhole s) (reading.wholly s) t a r b e c h in (
+        x,
+        told,
+        λ s′ l t′ a′ r′ b′ e′ lent six c′.
+            let (m, v) = reading.refused-told (readWhole s′) (reading.wholly s′) t′ a′ r′ b′ e′ c′ (blame.whole-blamed s s′ x k l q) lent six in
+            (m ∙ sym n, v ∙ sym told),
+      )
 
 -- ---- ior_write: t is any table of u32, read or made by the caller
 
@@ -232,6 +268,22 @@ module _ (t s a : List ℕ) (r : ℕ) (b : List ℕ) (c : IorLength t s a r b) w
 -- room they are the octets, save the seven constants of each address; and the copy is accepted again with equal contents (specs/Promises: `Day`, `Kept`).
 pub through-the-day : (s : List ℕ) → Octets s → (d : Day s) → (m : Reference) × (Leads s m (length s)) × (Kept s d m)
 through-the-day s o d = day.kept s o d
+
+-- ---- ior_name_read
+
+name-refuses : (y : Answer NameComponent) (x : Refusal) → nameSaid y ≡ Refused x → y ≡ refused x
+name-refuses (ok n k) x e = let z : _≡_ {A = ℕ} 0 1 = cc in absurd (omega arith)
+name-refuses (refused z) x e = let q : z ≡ x = cc in ap (λ (y : Refusal). refused y) q
+
+-- Where it broke: the sixth number points into s, and 6 has 0.
+pub c-name-offset-inside : (s v a : List ℕ) (r : ℕ) (b e : List ℕ) → IorNameRead s v a r b e → r ≢ 0 → r ≢ 255 → (x : Refusal) × (b ≡ numbersOf (Refused x)) × (Points s x)
+c-name-offset-inside s v a r b e c z w =
+    by-test (sized 4 (length v) (length a))
+    (λ h.
+    let (p, q, l) = asked-given c h in
+    by-answer (nameSaid (seen shortAt (readShortName s))) (λ n g. absurd (z (p ∙ ap numberOf g)))
+    (λ x g. (x, q ∙ ap numbersOf g, blame.short-points s x (seen-no shortAt (readShortName s) (name-refuses _ x g)))))
+    (λ h. absurd (w (unasked-given c h .0)))
 
 -- ---- ior_dvb_address (document 02, No. 5), of an array of twenty octets
 

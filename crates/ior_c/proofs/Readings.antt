@@ -1,6 +1,6 @@
 -- What the result of a reading call says: 0 that the reading was accepted, 255 that nothing was asked, any other number that it was refused. Assumes nothing.
 use Prim.Native.Nat.{ℕ, _<_, _≤_}
-use mathlib.Core.Path.{_≡_, refl, sym, ap, _∙_}
+use mathlib.Core.Path.{_≡_, refl, sym, ap, _∙_, subst}
 use mathlib.Core.Bool.{true, false}
 use mathlib.Core.Logic.{_≢_, _↔_}
 use mathlib.Core.List.{List, [], _∷_}
@@ -12,6 +12,7 @@ use Rattle.reference.specs.declared.Refusal.{Refusal}
 use Rattle.reference.specs.Meaning.{Reference, Room}
 use Rattle.reference.specs.Layout.{WellFormed}
 use Rattle.reference.specs.Steps.{Answer, ok, refused}
+use Rattle.reference.specs.Checks.{Among}
 use Rattle.reference.specs.Reader.{readLeading, readWhole, answered}
 use Rattle.reference.specs.Used.{Used}
 use Rattle.reference.specs.Placed.{tablesOf}
@@ -19,6 +20,7 @@ use Rattle.reference.specs.Tabled.{usedOf}
 use Rattle.reference.proofs.Cases.{by-test, by-answer}
 use Rattle.reference.proofs.Numbers.{leading-numbers, whole-numbers, reading-number}
 use Rattle.reference.proofs.Promised.{refuses}
+use Rattle.reference.proofs.Blame.{wrongs}
 use Rattle.table.specs.Flat.{tablesFrom, tableSize, Lent}
 use Rattle.reading.specs.Into.{tableLeft, ReadInto}
 use Rattle.reading.proofs.Lent.{into-exactly, into-refused, whole-into}
@@ -71,6 +73,13 @@ module _ (x : Answer Reference) (numbered : Numbered x) (t a : List ℕ) (r : �
       let (p, q, s) = asked-given c (is-sized tableSize (length t) (length a) l f) in
       (p, q, record { answers = refl; leaves = s })
 
+  -- what the reader refuses, with arrays of the right lengths, is told
+  pub refused-told : {y : Refusal} → x ≡ refused y → Lent t → length a ≡ answerSize → (r ≡ y .number) × (b ≡ numbersOf (Refused y))
+  refused-told q l f =
+      let (p, g, _) = read-sized l f in
+      let e = ap (λ (v : Answer Reference). answered v .answer) q in
+      (p ∙ ap numberOf e, g ∙ ap numbersOf e)
+
   pub read-unasked : r ≡ 255 → (b ≡ a) × (e ≡ t)
   read-unasked z = let (n, p, q) = unasked-given c (unasked-exactly (λ y q. numbered y (refuses x y q) .1) (c .tells) .0 z) in (p, q)
 
@@ -82,6 +91,13 @@ module _ (x : Answer Reference) (numbered : Numbered x) (t a : List ℕ) (r : �
           (λ y q.
           let (p, k, l) = asked-given c h in
           (y, refuses x y q, p ∙ ap numberOf q, k ∙ ap numbersOf q, into-refused x t e (answered x .answer) (record { answers = refl; leaves = l }) y q .0))
+
+  -- 3 or 4: what the reader refuses, and what is told
+  pub read-wrong : Among r (3 ∷ 4 ∷ []) → (y : Refusal) × (x ≡ refused y) × (Among (y .number) (3 ∷ 4 ∷ [])) × (r ≡ y .number) × (b ≡ numbersOf (Refused y))
+  read-wrong h =
+      let (low, high) = wrongs r h in
+      let (y, q, n, told, left) = read-refused (λ z. omega arith) (λ z. omega arith) in
+      (y, q, subst (λ (i : ℕ). Among i (3 ∷ 4 ∷ [])) n h, n, told)
 
   -- accepted with n octets and the used entries u exactly when the reader answers so
   pub read-exactly : Lent t → length a ≡ answerSize → ((m : Reference) (n : ℕ) → x ≡ ok m n → (WellFormed m) × (Room m)) → (n : ℕ) (u : Used)

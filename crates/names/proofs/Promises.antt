@@ -13,7 +13,9 @@ use Rattle.reference.specs.Meaning.{Name}
 use Rattle.reference.specs.Steps.{Answer, ok, refused, seen}
 use Rattle.reference.specs.Contents.{nameOf}
 use Rattle.reference.specs.Names.{LeadsShort, readShortName, shortAt}
-use Rattle.reference.proofs.Steps.{seen-ok}
+use Rattle.reference.specs.Where.{Points}
+use Rattle.reference.proofs.Steps.{seen-ok, seen-no}
+use Rattle.reference.proofs.Blame.{short-points}
 use Rattle.reference.proofs.Names.{short-accepted, short-only-accepted, short-shown, short-refused, short-gives-back, short-output-leads, short-output-reads-back}
 use Rattle.names.specs.declared.ShortNameRead.{ShortNameRead}
 use Rattle.names.specs.declared.ShortNameRead.the-variants as Names
@@ -59,6 +61,10 @@ views-show d o r h x n e =
     let (m, q, p) = got d r x n h e in
     let l = short-only-accepted d o m n q .1 in
     subst (λ (y : Name). LeadsShort d y n) (sym (ap (nameOf d) p ∙ short-shown d m n l)) l
+
+-- The third figure of a refused reading lies within the slice, and 6 has 0.
+pub offset-inside : (d : List ℕ) (r : ShortNameRead) → Reads-name d r → (x : Refusal) → r ≡ Names.Not x → Points d x
+offset-inside d r h x e = short-points d x (seen-no shortAt (readShortName d) (sym h ∙ ap shortTold e))
 
 -- A refused writing changes no octet.
 pub refused-writing-leaves-all : (x : NameComponent) (s d e : List ℕ) (y : Refusal) → Writes x s d (Refused y) e → e ≡ d

@@ -82,7 +82,7 @@ sized-no false n (ok m next) e = inl (late-roomy m next e)
 sized-no false n (refused z) e = inr (tt, e)
 
 -- what 3 and 4, 6 and 7 are
-wrongs : (n : ℕ) → Among n (3 ∷ 4 ∷ []) → (3 ≤ n) × (n ≤ 4)
+pub wrongs : (n : ℕ) → Among n (3 ∷ 4 ∷ []) → (3 ≤ n) × (n ≤ 4)
 wrongs n (inl e) = (omega arith, omega arith)
 wrongs n (inr (inl e)) = (omega arith, omega arith)
 
