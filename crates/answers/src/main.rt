@@ -18,6 +18,8 @@ use lines::put_name;
 use lines::put_output;
 use lines::put_table;
 use lines::put_tap;
+use lines::put_where;
+use names::ShortNameRead;
 use names::read_short_name;
 use names::write_short_name;
 use octets::be16;
@@ -205,6 +207,20 @@ fn answer_reading(is_whole: bool, table: &mut [u32], src: &mut [u8], line: &mut 
     counted(read_line(is_whole, &src[..n], table, line))
 }
 
+// The line that tells where a reading broke.
+fn answer_where(is_whole: bool, table: &mut [u32], src: &mut [u8], line: &mut [u8]) -> Found
+    requires { ⌜ Lent (now table) × (length (now src) ≡ 70000) × (length (now line) ≡ 150000) ⌝ }
+    ensures { λ r. ⌜ r .count ≤ 149999 ⌝ }
+{
+    let taken = take_source(src);
+    if taken.is_none {
+        return none(taken.is_failure);
+    }
+    let n = taken.count;
+    let answer = read_by(is_whole, &src[..n], table);
+    counted(put_where(line, 0, answer))
+}
+
 fn answer_length(table: &mut [u32], src: &mut [u8], line: &mut [u8]) -> Found
     requires { ⌜ Lent (now table) × (length (now src) ≡ 70000) × (length (now line) ≡ 150000) ⌝ }
     ensures { λ r. ⌜ r .count ≤ 149999 ⌝ }
@@ -305,6 +321,27 @@ fn answer_name(src: &mut [u8], line: &mut [u8]) -> Found
     counted(put_name(line, 0, name))
 }
 
+// What reading an 8-bit name answers, without its views.
+fn without_views(name: ShortNameRead) -> Answer {
+    match name {
+        ShortNameRead::Got { name: _, next } => Answer::Count(next),
+        ShortNameRead::Not { why } => Answer::Refused(why),
+    }
+}
+
+fn answer_name_where(src: &mut [u8], line: &mut [u8]) -> Found
+    requires { ⌜ (length (now src) ≡ 70000) × (length (now line) ≡ 150000) ⌝ }
+    ensures { λ r. ⌜ r .count ≤ 149999 ⌝ }
+{
+    let taken = take_source(src);
+    if taken.is_none {
+        return none(taken.is_failure);
+    }
+    let n = taken.count;
+    let answer = without_views(read_short_name(&src[..n]));
+    counted(put_where(line, 0, answer))
+}
+
 // The name whose two views stand in sixteen octets.
 fn name_of(octets: &[u8]) -> NameComponent
     requires { ⌜ length (now octets) ≡ 16 ⌝ }
@@ -394,6 +431,9 @@ fn answer(op: u8, table: &mut [u32], src: &mut [u8], out: &mut [u8], line: &mut 
         8 => answer_name_writing(src, out, line),
         9 => answer_first(table, line),
         10 => answer_address(line),
+        11 => answer_where(false, table, src, line),
+        12 => answer_where(true, table, src, line),
+        13 => answer_name_where(src, line),
         _ => bad(),
     }
 }

@@ -35,6 +35,11 @@ unfoldable pub answerText : Answer → List ℕ
 answerText (Answers.Count n) = acceptedText n
 answerText (Answers.Refused r) = refusalText r ++ (32 ∷ 48 ∷ [])
 
+-- the same with the offset where a reading broke, before the count
+unfoldable pub whereText : Answer → List ℕ
+whereText (Answers.Count n) = acceptedText 0 ++ spaced n
+whereText (Answers.Refused r) = refusalText r ++ spaced (r .offset) ++ (32 ∷ 48 ∷ [])
+
 -- ` i:v`, and nothing where v is 0
 unfoldable pub itemText : ℕ → ℕ → List ℕ
 itemText i v = cond (eqb v 0) [] (spaced i ++ (58 ∷ []) ++ decimal v)

@@ -3,7 +3,7 @@
 ghost use Prim.Native.Nat.{_+_, _*_, _≤_};
 ghost use lib.ListN.{length};
 ghost use Rattle.text.specs.Written.{Written};
-ghost use Rattle.lines.specs.Lines.{refusalText, acceptedText, answerText, itemText, tableText, outputText, kindText, tapText, nameText, firstText};
+ghost use Rattle.lines.specs.Lines.{refusalText, acceptedText, answerText, whereText, itemText, tableText, outputText, kindText, tapText, nameText, firstText};
 use names::ShortNameRead;
 use reference::Answer;
 use reference::FirstBiop;
@@ -47,6 +47,24 @@ pub fn put_answer(out: &mut [u8], at: usize, answer: Answer) -> usize
         Answer::Refused(why) => {
             let next = put_refusal(out, at, why);
             put_word(out, next, b" 0")
+        }
+    }
+}
+
+// The same with the offset where a reading broke, before the count.
+pub fn put_where(out: &mut [u8], at: usize, answer: Answer) -> usize
+    requires { ⌜ at + 106 ≤ length (now out) ⌝ }
+    ensures { λ r. ⌜ Written (now (out .entry)) at 106 (whereText answer) (now (out .exit)) r ⌝ }
+{
+    match answer {
+        Answer::Count(count) => {
+            let consumed = put_accepted(out, at, 0);
+            put_spaced(out, consumed, count as u64)
+        }
+        Answer::Refused(why) => {
+            let offset = put_refusal(out, at, why);
+            let zero = put_spaced(out, offset, why.offset as u64);
+            put_word(out, zero, b" 0")
         }
     }
 }
