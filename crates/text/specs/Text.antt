@@ -1,8 +1,15 @@
--- Text in ASCII: numbers in decimal, octets in hexadecimal. Assumes nothing.
+-- Text in ASCII: words, numbers in decimal, octets in hexadecimal. Assumes nothing.
 use Prim.Native.Nat.{ℕ, zero, suc, _+_, _/_, _%_}
+use Prim.Native.Char.{code}
+use Prim.Native.String.{String, [] as end, _∷_ as then}
 use mathlib.Core.Bool.{cond}
 use mathlib.Core.List.{List, [], _∷_, _++_}
 use lib.Dec.{ltb}
+
+-- words as they stand
+abbrev pub ascii : String → List ℕ
+ascii end = []
+ascii (then c s) = code c ∷ ascii s
 
 -- the decimal digits of a number that has at most k: the last one stands behind those of the tenth
 unfoldable pub digitsIn : ℕ → ℕ → List ℕ
