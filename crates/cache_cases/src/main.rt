@@ -24,7 +24,7 @@ fn list_file(name: &[u8]) {
         os::fail(name);
         return;
     }
-    say_outcome(list(fd));
+    say_outcome(list(fd, false));
     libc::close(fd);
 }
 

@@ -6,6 +6,6 @@ use outcome::tell;
 fn main() {
     let mut name = io::buffer();
     let n = os::arg(1, &mut name);
-    let outcome = list(STDIN_FILENO);
+    let outcome = list(STDIN_FILENO, false);
     tell(outcome, &name[..n]);
 }

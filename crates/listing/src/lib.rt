@@ -1,5 +1,5 @@
 // The listing of a cache that comes from a file descriptor, to standard output, in blocks. What octets mean and what a line says is decided in
-// crate cache, how they come in crate intake.
+// crate rows, how they come in crate intake.
 use intake::fetch;
 use libc::STDOUT_FILENO;
 use outcome::Outcome;
@@ -34,9 +34,9 @@ fn write_line(line: &[u8; 80], n: usize) -> bool
     write_start(line, n)
 }
 
-fn write_heading() -> bool {
+fn write_heading(is_where: bool) -> bool {
     let mut line = [0u8; 80];
-    let k = put_heading(&mut line);
+    let k = put_heading(is_where, &mut line);
     write_line(&line, k)
 }
 
@@ -71,7 +71,13 @@ fn end(is_failure: bool, left: usize, seen: u64, at: u64) -> Outcome {
 }
 
 // Lists what comes from `fd`, of which nothing has come yet.
-fn list_blocks(fd: i32, room: &mut [u8], table: &mut [u32], page: &mut [u8]) -> Outcome
+fn list_blocks(
+    fd: i32,
+    is_where: bool,
+    room: &mut [u8],
+    table: &mut [u32],
+    page: &mut [u8],
+) -> Outcome
     requires { ⌜ (length (now room) ≡ 262144) × Lent (now table) × (length (now page) ≡ 65536) ⌝ }
 {
     // `came` octets came so far; those from `from` to before `to` in the room are the last of them, and are not listed yet.
@@ -80,7 +86,8 @@ fn list_blocks(fd: i32, room: &mut [u8], table: &mut [u32], page: &mut [u8]) -> 
     let mut to: usize = 0;
     let mut seen: u64 = 0;
     while came < FARTHEST {
-        let rows = put_rows(&room[..to], from, seen, table, page);
+        let base = came - to as u64;
+        let rows = put_rows(&room[..to], base, from, seen, is_where, table, page);
         if !write_start(page, rows.used) {
             return Outcome::NotWritten;
         }
@@ -100,13 +107,13 @@ fn list_blocks(fd: i32, room: &mut [u8], table: &mut [u32], page: &mut [u8]) -> 
     Outcome::NotRead
 }
 
-// Lists what comes from `fd`, however long it is.
-pub fn list(fd: i32) -> Outcome {
+// Lists what comes from `fd`, however long it is; `is_where`: with a column that tells of a refused record where it broke.
+pub fn list(fd: i32, is_where: bool) -> Outcome {
     let mut room = [0u8; ROOM];
     let mut table = [0u32; SIZE];
     let mut page = [0u8; PAGE];
-    if !write_heading() {
+    if !write_heading(is_where) {
         return Outcome::NotWritten;
     }
-    list_blocks(fd, &mut room, &mut table, &mut page)
+    list_blocks(fd, is_where, &mut room, &mut table, &mut page)
 }

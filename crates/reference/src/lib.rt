@@ -293,31 +293,31 @@ pub fn cut(place: u8, at: usize, k: usize, end: usize) -> Refusal
     }
 }
 
-// 1: octets are left over, from `at` on.
-pub fn left_over(place: u8, at: usize, end: usize) -> Refusal
-    requires { ⌜ at ≤ end ⌝ }
-    ensures { λ r. ⌜ r ≡ leftAt place at end ⌝ }
+// 1: octets are left over, from `rest` on.
+pub fn left_over(place: u8, rest: usize, end: usize) -> Refusal
+    requires { ⌜ rest ≤ end ⌝ }
+    ensures { λ r. ⌜ r ≡ leftAt place rest end ⌝ }
 {
     Refusal {
         number: 1,
         place,
-        first: end - at,
+        first: end - rest,
         second: 0,
-        offset: at,
+        offset: rest,
     }
 }
 
-// 2: a length passes what is there from `at` on; in writing, what its field can say (from 0, 255).
-pub fn too_long(at: usize, declared: usize, end: usize) -> Refusal
-    requires { ⌜ at ≤ end ⌝ }
-    ensures { λ r. ⌜ r ≡ longAt at declared end ⌝ }
+// 2: a length passes what is there from `start` on; in writing, what its field can say (from 0, 255).
+pub fn too_long(start: usize, declared: usize, end: usize) -> Refusal
+    requires { ⌜ start ≤ end ⌝ }
+    ensures { λ r. ⌜ r ≡ longAt start declared end ⌝ }
 {
     Refusal {
         number: 2,
         place: 0,
         first: declared,
-        second: end - at,
-        offset: at,
+        second: end - start,
+        offset: start,
     }
 }
 

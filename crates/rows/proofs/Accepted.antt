@@ -3,6 +3,7 @@
 use Prim.Native.Nat.{ℕ, _+_, _-_, _%_, _≤_}
 use native.Mathlib.Nat.{add-sub-cancel-left}
 use mathlib.Core.Path.{_≡_, refl, sym, ap, _∙_}
+use mathlib.Core.Bool.{Bool}
 use mathlib.Core.List.{List}
 use native.Mathlib.Omega.{arith}
 use lib.Dec.{ltb, eqb, nltb→le}
@@ -19,6 +20,7 @@ use Rattle.reference.specs.Reader.{roomy, readCount, readProfile, readReference
 use Rattle.reference.specs.declared.ObjectKind.{ObjectKind}
 use Rattle.reference.specs.Questions.{kindOf}
 use Rattle.reference.proofs.Laws.{guard-ok, pass-ok, followed-ok}
+use Rattle.reference.proofs.Blame.{whole-points}
 use Rattle.table.specs.Filed.{referenceFiled}
 use Rattle.reading.specs.Into.{ReadInto, tableLeft}
 use Rattle.rows.specs.Rows.{foundText, refusedText, answerText}
@@ -71,9 +73,12 @@ told-refused (refused z) {y} e = let q : z ≡ y = cc in ap (λ (i : Refusal). r
 
 -- a whole reading into a lent table t, which left e: what its row says
 module _ (s : List ℕ) {t e : List ℕ} {r : Told} (h : ReadInto (readWhole s) t e r) where
-  pub row-refused : {y : Refusal} → r ≡ Refused y → refusedText (y .number) ≡ answerText (readWhole s)
+  pub row-refused : {y : Refusal} → r ≡ Refused y → (asked : Bool) (start : ℕ) → refusedText asked start y ≡ answerText asked start (readWhole s)
   unfolding answerText
-  row-refused {y} q = let x = told-refused (readWhole s) (sym (h .answers) ∙ q) in rw x refl
+  row-refused {y} q asked start = let x = told-refused (readWhole s) (sym (h .answers) ∙ q) in rw x refl
+
+  pub offset-inside : {y : Refusal} → r ≡ Refused y → y .offset ≤ length s
+  offset-inside {y} q = whole-points s y (told-refused (readWhole s) (sym (h .answers) ∙ q)) .inside
 
   module _ {k : ℕ} (q : r ≡ Count k) where
     pub meaning : (m : Reference) × (readWhole s ≡ ok m k)
@@ -97,10 +102,11 @@ module _ (s : List ℕ) {t e : List ℕ} {r : Told} (h : ReadInto (readWhole s) 
     pub view-inside : getD e 0 0 + getD e 1 0 ≤ length s
     view-inside = omega (arith, type-id-at, type-id-long, type-id-stands s (meaning .1) .0)
 
-    pub row-found : {d : ObjectKind} → d ≡ kindOf (part s (getD e 0 0) (getD e 0 0 + getD e 1 0 - getD e 0 0)) → foundText d (getD e 2 0) ≡ answerText (readWhole s)
+    pub row-found : {d : ObjectKind} → d ≡ kindOf (part s (getD e 0 0) (getD e 0 0 + getD e 1 0 - getD e 0 0)) → (asked : Bool) (start : ℕ)
+        → foundText d (getD e 2 0) ≡ answerText asked start (readWhole s)
     unfolding answerText
-    row-found {d} p =
+    row-found {d} p asked start =
         let m : Reference = meaning .0 in
         let shown : part s (getD e 0 0) (getD e 0 0 + getD e 1 0 - getD e 0 0) ≡ m .typeId =
         rw (type-id-at, type-id-long) (ap (part s 4) (add-sub-cancel-left 4 (length (m .typeId))) ∙ type-id-stands s (meaning .1) .1) in
-        ap (λ (x : ObjectKind). foundText x (getD e 2 0)) (p ∙ ap kindOf shown) ∙ ap (foundText (kindOf (m .typeId))) profiles-used ∙ ap answerText (sym (meaning .1))
+        ap (λ (x : ObjectKind). foundText x (getD e 2 0)) (p ∙ ap kindOf shown) ∙ ap (foundText (kindOf (m .typeId))) profiles-used ∙ ap (answerText asked start) (sym (meaning .1))

@@ -15,14 +15,17 @@ held true e = refl
 held false e = let z : _≡_ {A = ℕ} 0 1 = cc in absurd (omega arith)
 
 abbrev Inv-loop : tie.InvT-loop
-Inv-loop fd room₀ table₀ page₀ came₀ from₀ to₀ seen₀ room table page came from to seen =
-    (from ≤ to) × (to ≤ 262144) × (seen + to ≤ came + from) × (came ≤ 0x800000000003FFFF) × (length room ≡ 262144) × Lent table × (length page ≡ 65536)
+Inv-loop fd asked room₀ table₀ page₀ came₀ from₀ to₀ seen₀ room table page came from to seen =
+    (from ≤ to) × (to ≤ 262144) × (seen + to ≤ came + from) × (came ≤ 0x800000000003FFFF) × (length room ≡ 262144) × Lent table × (length page ≡ 65536) × (to ≤ came)
 
 abbrev μ-loop : tie.MeasureT-loop
-μ-loop fd room₀ table₀ page₀ came₀ from₀ to₀ seen₀ room table page came from to seen = 262145 * (0x8000000000040000 - came) + (to - from)
+μ-loop fd asked room₀ table₀ page₀ came₀ from₀ to₀ seen₀ room table page came from to seen = 262145 * (0x8000000000040000 - came) + (to - from)
 
 loop-holds : tie.Need-loop-holds Inv-loop μ-loop
 loop-holds c = search needs
+
+sub-base : tie.Need-sub-base Inv-loop μ-loop
+sub-base c = search needs
 
 slice-reshare-prefix-put-rows : tie.Need-slice-reshare-prefix-put-rows Inv-loop μ-loop
 slice-reshare-prefix-put-rows c = search needs
@@ -123,7 +126,7 @@ loop-again c =
     let r = p .put-rows .ensures .rows in
     let n = length-take-le (l .to) (l .room) (omega (arith, l .inv)) in
     let f = c .before .before .before .before .before .fetch .ensures in
-    (omega arith, omega (arith, f, r .inside, n, l .inv), omega (arith, f, r .inside, r .apart, n, l .inv), omega (arith, f, r .inside, n, l .inv), search needs, search needs, search needs)
+    (omega arith, omega (arith, f, r .inside, n, l .inv), omega (arith, f, r .inside, r .apart, n, l .inv), omega (arith, f, r .inside, n, l .inv), search needs, search needs, search needs, omega (arith, f, r .inside, n, l .inv))
 
 loop-less-2 : tie.Need-loop-less-2 Inv-loop μ-loop
 loop-less-2 c =
@@ -139,7 +142,7 @@ loop-again-2 c =
     let l = p .before .before .before .before .before .loop in
     let r = p .put-rows .ensures .rows in
     let n = length-take-le (l .to) (l .room) (omega (arith, l .inv)) in
-    (omega (arith, r .inside, n), omega (arith, l .inv), omega (arith, r .inside, r .apart, n, l .inv), omega (arith, l .inv), search needs, search needs, search needs)
+    (omega (arith, r .inside, n), omega (arith, l .inv), omega (arith, r .inside, r .apart, n, l .inv), omega (arith, l .inv), search needs, search needs, search needs, omega (arith, l .inv))
 
 same-length-7 : tie.Need-same-length-7 Inv-loop μ-loop
 same-length-7 c = search needs
@@ -160,6 +163,7 @@ list-blocks-spec =
     Inv-loop
     μ-loop
     loop-holds
+    sub-base
     slice-reshare-prefix-put-rows
     slice-aggregate-put-rows
     put-rows-requires

@@ -1,7 +1,7 @@
 -- `rows::put_answer` meets its contract. What the answer and the lent table say is what the reader answered. Assumes nothing.
 use native.Mathlib.Omega.{arith}
 use Rattle.text.proofs.Texts.{loose}
-use Rattle.rows.proofs.Accepted.{type-id-at, view-inside, row-refused, row-found}
+use Rattle.rows.proofs.Accepted.{type-id-at, view-inside, row-refused, offset-inside, row-found}
 use borrow.Author.Needs.{needs}
 use Rattle.rows.proofs.put_answer.Statement.{statement}
 use Rattle.rows.proofs.put_answer.Tie as tie
@@ -13,16 +13,18 @@ enum-known-why : tie.Need-enum-known-why
 enum-known-why c = search needs
 
 put-refused-requires : tie.Need-put-refused-requires
-put-refused-requires c κs = search needs
+put-refused-requires c κs =
+    let w = c .before .before in
+    omega (arith, offset-inside _ (w .before .before .before .before .read-whole-into .ensures) (w .why .given .1))
 
 enum-told : tie.Need-enum-told
 enum-told c = search needs
 
-slice-read-start : tie.Need-slice-read-start
-slice-read-start c = search needs
+slice-read-id : tie.Need-slice-read-id
+slice-read-id c = search needs
 
-cast-start : tie.Need-cast-start
-cast-start c =
+cast-id : tie.Need-cast-id
+cast-id c =
     let e = c .before in
     omega (arith, type-id-at _ (e .before .before .before .before .read-whole-into .ensures) (e .enum-told .given .1))
 
@@ -70,7 +72,7 @@ returns c =
     let q = c .before .before in
     let w = q .before .before .before in
     let r = w .before .before .before .before in
-    loose (q .put-refused .ensures) 31 (omega arith) (row-refused _ (r .read-whole-into .ensures) (w .why .given .1))
+    loose (q .put-refused .ensures) 76 (omega arith) (row-refused _ (r .read-whole-into .ensures) (w .why .given .1) _ _)
 
 same-length-3 : tie.Need-same-length-3
 same-length-3 c = search needs
@@ -84,7 +86,7 @@ returns-2 c =
     let o = q .before .before .before in
     let e = o .before .before .before .before in
     let r = e .before .before .before .before in
-    loose (q .put-found .ensures) 31 (omega arith) (row-found _ (r .read-whole-into .ensures) (e .enum-told .given .1) (o .object-kind .ensures))
+    loose (q .put-found .ensures) 76 (omega arith) (row-found _ (r .read-whole-into .ensures) (e .enum-told .given .1) (o .object-kind .ensures) _ _)
 
 pub put-answer-spec : {M : Type 1} → statement M
 put-answer-spec =
@@ -94,8 +96,8 @@ put-answer-spec =
     enum-known-why
     put-refused-requires
     enum-told
-    slice-read-start
-    cast-start
+    slice-read-id
+    cast-id
     slice-read-stop
     cast-stop
     add-stop

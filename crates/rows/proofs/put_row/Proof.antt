@@ -36,7 +36,7 @@ returns c =
     let gap = a .before .before .before .before .before in
     let l = gap .before .before .before .before in
     let n = l .before .before .before .before in
-    loose (then (then (then (then (n .put-decimal .ensures) (l .put-spaced .ensures)) (sized (gap .put-octet .ensures))) (a .put-answer .ensures)) (sized (end .put-octet2 .ensures))) 80 (omega arith) refl
+    loose (then (then (then (then (n .put-decimal .ensures) (l .put-spaced .ensures)) (sized (gap .put-octet .ensures))) (a .put-answer .ensures)) (sized (end .put-octet2 .ensures))) 128 (omega arith) refl
 
 pub put-row-spec : {M : Type 1} → statement M
 put-row-spec =

@@ -10,6 +10,7 @@ use native.Mathlib.Omega.{arith}
 use borrow.Author.Needs.{needs}
 use lib.ListN.{length}
 use denote.Ref.{now}
+use Rattle.octets.proofs.Part.{length-part}
 use Rattle.rows.specs.Rows.{Rowed}
 use Rattle.records.proofs.Recorded.{got-stands}
 use Rattle.rows.proofs.Pages.{begun, turn, when-full, when-none}
@@ -18,15 +19,15 @@ use Rattle.rows.proofs.put_rows.Tie as tie
 use Rattle.table.specs.Flat.{Lent}
 
 abbrev Inv-loop : tie.InvT-loop
-Inv-loop block at seen table₀ page₀ room next₀ count₀ used₀ table page next count used = (Rowed block at seen page next count used) × (Lent table) × (length page ≡ room)
+Inv-loop block base at seen asked table₀ page₀ room next₀ count₀ used₀ table page next count used = (Rowed asked base block at seen page next count used) × (Lent table) × (length page ≡ room)
 
 abbrev μ-loop : tie.MeasureT-loop
-μ-loop block at seen table₀ page₀ room next₀ count₀ used₀ table page next count used = length block - next
+μ-loop block base at seen asked table₀ page₀ room next₀ count₀ used₀ table page next count used = length block - next
 
 loop-holds : tie.Need-loop-holds Inv-loop μ-loop
 loop-holds c =
     let a = c .before .before .before .args in
-    (begun (now (a .block)) (a .at) (a .seen) (now (a .page)) (omega arith), search needs, search needs)
+    (begun (a .is-where) (a .base) (now (a .block)) (a .at) (a .seen) (now (a .page)) (omega arith), search needs, search needs)
 
 add-loop : tie.Need-add-loop Inv-loop μ-loop
 add-loop c = omega (arith, c .loop .inv .0 .within)
@@ -54,6 +55,11 @@ add-count c =
     let s = c .before in
     omega (arith, got-stands _ _ (sym (s .before .before .record-at .ensures) ∙ s .start .given .1), s .before .before .before .before .loop .inv .0 .apart)
 
+add-place : tie.Need-add-place Inv-loop μ-loop
+add-place c =
+    let s = c .before in
+    omega (arith, got-stands _ _ (sym (s .before .before .record-at .ensures) ∙ s .start .given .1))
+
 sub-put-row : tie.Need-sub-put-row Inv-loop μ-loop
 sub-put-row c =
     let s = c .before in
@@ -70,7 +76,12 @@ part-put-row-end c =
     omega (arith, got-stands _ _ (sym (s .before .before .record-at .ensures) ∙ s .start .given .1))
 
 put-row-requires : tie.Need-put-row-requires Inv-loop μ-loop
-put-row-requires c κs = search needs
+put-row-requires c κs =
+    let s = c .before .before .before .before in
+    let g = got-stands _ _ (sym (s .before .before .record-at .ensures) ∙ s .start .given .1) in
+    let l = s .before .before .before .before in
+    let block = now (l .before .before .before .before .args .block) in
+    omega (arith, g, length-part block (s .start .given .0 .0) (s .start .given .0 .1 .0 - s .start .given .0 .0) (omega (arith, g)), l .loop .inv .0 .within)
 
 loop-less : tie.Need-loop-less Inv-loop μ-loop
 loop-less c =
@@ -107,6 +118,7 @@ put-rows-spec =
     same-length-2
     returns
     add-count
+    add-place
     sub-put-row
     part-put-row-start
     part-put-row-end

@@ -1,0 +1,11 @@
+// Lists the references of a cache that comes from standard input, and of a refused one where it broke; its argument is the input's name.
+use libc::STDIN_FILENO;
+use listing::list;
+use outcome::tell;
+
+fn main() {
+    let mut name = io::buffer();
+    let n = os::arg(1, &mut name);
+    let outcome = list(STDIN_FILENO, true);
+    tell(outcome, &name[..n]);
+}
