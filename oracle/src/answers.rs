@@ -1,7 +1,9 @@
 //! Answers requests as the program `answers` does: the Rust decides, and document 01's own refusals and the line's form are added.
 
+use crate::model::{self, Broken};
+use crate::readable::describe;
 use crate::refusal::{plain, Refusal};
-use crate::request::{take, Request, Stop};
+use crate::request::{take, Reading, Request, Stop};
 use crate::table::{check_view, Table, PLACES, PROFILES, SIZES, USED};
 use broadcast_common::{Parse, Serialize};
 use dvb_si::carousel::biop::ior::{Ior, NameComponent, ObjectKind, TaggedProfile, Tap};
@@ -16,10 +18,12 @@ const BEFORE: u8 = 0xA5;
 /// The line that ends a run.
 const BAD_REQUEST: &[u8] = b"bad request";
 
-/// An answer beside its line: the refusal, and a refused writing's output as the Rust left it, where it had changed it.
+/// An answer beside its line: the refusal; where the figures of a reading that tells where it broke count from; and a refused
+/// writing's output as the Rust left it, where it had changed it.
 #[derive(Default)]
 pub struct Answered {
     pub refusal: Option<Refusal>,
+    pub origin: usize,
     pub dirty: Vec<u8>,
 }
 
@@ -86,6 +90,22 @@ fn read_name(source: &[u8]) -> Result<[usize; 5], Refusal> {
     let (name, consumed) = NameComponent::parse_8bit(source, 0, source.len())?;
     let offset = |part: &[u8]| part.as_ptr() as usize - source.as_ptr() as usize;
     Ok([consumed, offset(name.id), name.id.len(), offset(name.kind), name.kind.len()])
+}
+
+/// A reading by the Rust and by the model: consumed octets, or the refusal and where it broke. The Rust decides all but the offset,
+/// and the model is worth nothing where it differs in any of that.
+pub fn locate(reading: Reading, source: &[u8]) -> Result<usize, Broken> {
+    let by_rust = match reading {
+        Reading::Leading => read(false, source).map(|(consumed, _)| consumed),
+        Reading::Whole => read(true, source).map(|(consumed, _)| consumed),
+        Reading::Name => read_name(source).map(|[consumed, ..]| consumed),
+    };
+    let by_model = model::read(reading, source);
+    if by_model.map_err(|broken| broken.refusal) != by_rust {
+        let asked = describe(&Request::Where { reading, source: source.to_vec() });
+        panic!("the Rust gives {by_rust:?} and the model {by_model:?} for {asked}");
+    }
+    by_model
 }
 
 fn write_name(id: (u32, u32), kind: (u32, u32), source: &[u8], out: &mut [u8]) -> Result<usize, Refusal> {
@@ -165,7 +185,7 @@ fn put_table(line: &mut Vec<u8>, table: &Table) {
 }
 
 fn refused<T>(result: &Result<T, Refusal>) -> Answered {
-    Answered { refusal: result.as_ref().err().copied(), dirty: Vec::new() }
+    Answered { refusal: result.as_ref().err().copied(), ..Answered::default() }
 }
 
 fn answer_read(whole: bool, source: &[u8], line: &mut Vec<u8>) -> Answered {
@@ -214,6 +234,15 @@ fn answer_read_name(source: &[u8], line: &mut Vec<u8>) -> Answered {
     refused(&result)
 }
 
+fn answer_where(reading: Reading, source: &[u8], line: &mut Vec<u8>) -> Answered {
+    let result = locate(reading, source);
+    let refusal = result.err().map(|broken| broken.refusal);
+    let (offset, origin) = result.err().map_or((0, 0), |broken| (broken.offset, broken.origin));
+    put_refusal(line, refusal);
+    put_spaced(line, &[offset, result.unwrap_or(0)]);
+    Answered { refusal, origin, ..Answered::default() }
+}
+
 fn answer_first(table: &Table, line: &mut Vec<u8>) -> Answered {
     let result = first_biop(table);
     put_refusal(line, refused(&result).refusal);
@@ -242,6 +271,7 @@ pub fn answer(request: &Request, line: &mut Vec<u8>) -> Answered {
             line.extend_from_slice(if is_dvb_address(octets) { b"yes" } else { b"no" });
             Answered::default()
         }
+        Request::Where { reading, source } => answer_where(*reading, source, line),
     }
 }
 
@@ -270,14 +300,16 @@ pub fn each_request(mut input: impl Read, mut each: impl FnMut(Request) -> io::R
     }
 }
 
-/// Answers all requests of an input, a line for each, and the end of the run where a request is bad.
+/// Answers all requests of an input, a line for each, and the end of the run where a request is bad. A line goes out before the
+/// next request is answered, as whoever compares expects.
 pub fn answer_all(input: impl Read, mut output: impl Write) -> io::Result<()> {
     let mut line = Vec::new();
     let ended_well = each_request(input, |request| {
         line.clear();
         answer(&request, &mut line);
         line.push(b'\n');
-        output.write_all(&line)
+        output.write_all(&line)?;
+        output.flush()
     })?;
     if !ended_well {
         output.write_all(BAD_REQUEST)?;

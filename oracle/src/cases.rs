@@ -4,12 +4,20 @@ use crate::answers::answer;
 use crate::listing::list;
 use crate::readable::{describe, octets, request};
 use crate::request::{take, Request};
+use crate::where_cases::WHERE;
 
-/// A case's name, what is asked, and the line that must come.
-type Case = (&'static str, &'static str, &'static str);
+/// A case's name, what is asked, and the line that must come. Questions are readable requests, or `list` or `list-where` and a
+/// cache, with names for some octets.
+pub type Case = (&'static str, &'static str, &'static str);
 
-/// Questions are readable requests, or `list` and a cache. J stands for document 01's reference J.
-const J: &str = "00000004_73726700_00000001_49534F06_00000016_0002_49534F50_09_00000001_0002_01_00_00_49534F40_01_00";
+/// J is document 01's reference; K the front of one whose second profile follows; L an ObjectLocation without a key and the tag of
+/// a ConnBinder; N an address.
+const NAMED: [(&str, &str); 4] = [
+    ("J", "00000004_73726700_00000001_49534F06_00000016_0002_49534F50_09_00000001_0002_01_00_00_49534F40_01_00"),
+    ("K", "00000004_73726700_00000002_00000007_00000003_AABBCC"),
+    ("L", "49534F50_09_00000001_0002_01_00_00_49534F40"),
+    ("N", "0000_00000009_01_00015A_0003_0004_0005_FFFFFFFF"),
+];
 
 const CASES: &[Case] = &[
     ("P1", "leading src=-", "1 1 8 0 0"),
@@ -135,9 +143,11 @@ fn expectation(text: &str) -> String {
 
 /// The line that comes: the request goes through its octets, as it does on the way from a file.
 fn outcome(question: &str) -> String {
-    let question = question.replace("J", J);
-    if let Some(cache) = question.strip_prefix("list ") {
-        return list(&octets(cache));
+    let question = NAMED.iter().fold(question.to_string(), |text, (name, octets)| text.replace(name, octets));
+    for (sort, tells_where) in [("list ", false), ("list-where ", true)] {
+        if let Some(cache) = question.strip_prefix(sort) {
+            return list(&octets(cache), tells_where);
+        }
     }
     let mut sent = Vec::new();
     request(&question).put(&mut sent);
@@ -164,7 +174,7 @@ fn mutated(expected: &str) -> String {
 /// Runs all cases, with the expectation of case number `mutate` changed; the names of those that fail, with what came.
 pub fn failures(mutate: Option<usize>) -> Vec<String> {
     let mut failed = Vec::new();
-    for (index, (name, question, expected)) in CASES.iter().enumerate() {
+    for (index, (name, question, expected)) in CASES.iter().chain(WHERE).enumerate() {
         let expected = expectation(expected);
         let expected = if mutate == Some(index) { mutated(&expected) } else { expected };
         let got = outcome(question);
@@ -176,5 +186,5 @@ pub fn failures(mutate: Option<usize>) -> Vec<String> {
 }
 
 pub fn count() -> usize {
-    CASES.len()
+    CASES.len() + WHERE.len()
 }

@@ -99,7 +99,7 @@ impl<R: BufRead> Comparison<R> {
                 ended = true;
                 return Ok(());
             }
-            self.coverage.count(request.op(), &answered);
+            self.coverage.count(&request, &answered);
             if got != expected {
                 self.differences += 1;
                 if self.differences <= SHOWN {
@@ -211,11 +211,11 @@ pub fn compare_bad(program: &str, generator: Generator, count: u64) -> io::Resul
     })
 }
 
-/// Caches to be listed.
-pub fn compare_list(program: &str, generator: Generator, count: u64) -> io::Result<usize> {
+/// Caches to be listed, with where their records broke or without.
+pub fn compare_list(program: &str, generator: Generator, count: u64, tells_where: bool) -> io::Result<usize> {
     compare_runs(program, count, |index| {
         let cache = generator.cache(index);
-        let expected = list(&cache).into_bytes();
+        let expected = list(&cache, tells_where).into_bytes();
         (cache, expected)
     })
 }

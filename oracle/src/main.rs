@@ -6,10 +6,13 @@ mod compare;
 mod coverage;
 mod generate;
 mod listing;
+mod model;
+mod place;
 mod readable;
 mod refusal;
 mod request;
 mod table;
+mod where_cases;
 
 use coverage::Coverage;
 use generate::Generator;
@@ -17,11 +20,12 @@ use std::error::Error;
 use std::io::{self, BufWriter, Read, Write};
 use std::process::ExitCode;
 
-const USAGE: &str = "usage: oracle answer | describe | encode | dirty | list        (from standard input)
-       oracle generate SEED COUNT [OPS] | coverage SEED COUNT | sweep-size
-       oracle compare PROGRAM SEED COUNT [OPS] | compare-bad PROGRAM SEED COUNT | compare-list PROGRAM SEED COUNT
+const USAGE: &str = "usage: oracle answer | describe | encode | dirty | list [--where]        (from standard input)
+       oracle generate SEED COUNT [OPS] | sample SEED COUNT | coverage SEED COUNT | sweep-size
+       oracle compare PROGRAM SEED COUNT [OPS] | compare-bad PROGRAM SEED COUNT
+       oracle compare-list PROGRAM SEED COUNT | compare-where PROGRAM SEED COUNT
        oracle self-check [--mutate K] | case-count
-OPS is a list with commas of 1 to 10 and sweep.";
+OPS is a list with commas of 1 to 13 and sweep.";
 
 /// Whether all was well.
 type Outcome = Result<bool, Box<dyn Error>>;
@@ -66,10 +70,10 @@ fn show_dirty() -> Outcome {
     Ok(true)
 }
 
-fn list() -> Outcome {
+fn list(tells_where: bool) -> Outcome {
     let mut cache = Vec::new();
     io::stdin().read_to_end(&mut cache)?;
-    print!("{}", listing::list(&cache));
+    print!("{}", listing::list(&cache, tells_where));
     Ok(true)
 }
 
@@ -79,6 +83,21 @@ fn generate(generator: &Generator, count: u64) -> Outcome {
         out.write_all(&compare::chunk(generator, index, index + 1))?;
     }
     out.flush()?;
+    Ok(true)
+}
+
+/// Of so many requests those that meet what none before them met.
+fn sample(generator: &Generator, count: u64) -> Outcome {
+    let mut coverage = Coverage::default();
+    let (mut octets, mut line) = (Vec::new(), Vec::new());
+    for index in 0..count {
+        line.clear();
+        let request = generator.request(index);
+        if coverage.count(&request, &answers::answer(&request, &mut line)) {
+            request.put(&mut octets);
+        }
+    }
+    io::stdout().write_all(&octets)?;
     Ok(true)
 }
 
@@ -93,7 +112,7 @@ fn cover(generator: &Generator, count: u64) -> Outcome {
         let Ok((request, _)) = request::take(&octets) else {
             return Err(format!("request {index} is bad").into());
         };
-        coverage.count(request.op(), &answers::answer(&request, &mut line));
+        coverage.count(&request, &answers::answer(&request, &mut line));
     }
     print!("{}", coverage.report());
     let faults = coverage.faults();
@@ -117,6 +136,17 @@ fn seeded(seed: &str, ops: Option<&str>) -> Result<Generator, Box<dyn Error>> {
     Ok(Generator::new(number("SEED", seed)?, ops)?)
 }
 
+/// Compares with a program; not well where it differs.
+fn compared(sort: &str, program: &str, generator: Generator, count: u64) -> Outcome {
+    let differences = match sort {
+        "compare-bad" => compare::compare_bad(program, generator, count)?,
+        "compare-list" => compare::compare_list(program, generator, count, false)?,
+        "compare-where" => compare::compare_list(program, generator, count, true)?,
+        _ => compare::compare(program, generator, count)?,
+    };
+    Ok(differences == 0)
+}
+
 fn run(arguments: &[&str]) -> Outcome {
     let counted = |count: &str| number("COUNT", count);
     match *arguments {
@@ -127,9 +157,11 @@ fn run(arguments: &[&str]) -> Outcome {
         ["describe"] => describe_all(),
         ["encode"] => encode_all(),
         ["dirty"] => show_dirty(),
-        ["list"] => list(),
+        ["list"] => list(false),
+        ["list", "--where"] => list(true),
         ["generate", seed, count] => generate(&seeded(seed, None)?, counted(count)?),
         ["generate", seed, count, ops] => generate(&seeded(seed, Some(ops))?, counted(count)?),
+        ["sample", seed, count] => sample(&seeded(seed, None)?, counted(count)?),
         ["coverage", seed, count] => cover(&seeded(seed, None)?, counted(count)?),
         ["-h" | "--help"] => {
             println!("{USAGE}");
@@ -139,14 +171,10 @@ fn run(arguments: &[&str]) -> Outcome {
             println!("{}", seeded("0", None)?.sweep_size());
             Ok(true)
         }
-        ["compare", program, seed, count] => Ok(compare::compare(program, seeded(seed, None)?, counted(count)?)? == 0),
-        ["compare", program, seed, count, ops] => {
-            Ok(compare::compare(program, seeded(seed, Some(ops))?, counted(count)?)? == 0)
+        [sort @ ("compare" | "compare-bad" | "compare-list" | "compare-where"), program, seed, count] => {
+            compared(sort, program, seeded(seed, None)?, counted(count)?)
         }
-        ["compare-bad", program, seed, count] => Ok(compare::compare_bad(program, seeded(seed, None)?, counted(count)?)? == 0),
-        ["compare-list", program, seed, count] => {
-            Ok(compare::compare_list(program, seeded(seed, None)?, counted(count)?)? == 0)
-        }
+        ["compare", program, seed, count, ops] => compared("compare", program, seeded(seed, Some(ops))?, counted(count)?),
         ["self-check"] => self_check(None),
         ["self-check", "--mutate", case] => self_check(Some(number("K", case)? as usize)),
         ["case-count"] => {

@@ -3,7 +3,7 @@
 //! Octets are hexadecimal, `-` for none; when they are read back, `_` separates groups and `GROUP*COUNT` repeats one. A table is
 //! its numbers that aren't zero, `INDEX:NUMBER` with commas between; a view is `OFFSET+LENGTH`.
 
-use crate::request::Request;
+use crate::request::{Reading, Request};
 use crate::table::Table;
 use std::collections::HashMap;
 
@@ -72,6 +72,9 @@ pub fn describe(request: &Request) -> String {
         }
         Request::First { table } => format!("first table={}", shown_table(table)),
         Request::Address { octets } => format!("address src={}", hex(octets)),
+        Request::Where { reading: Reading::Leading, source } => format!("where-leading src={}", hex(source)),
+        Request::Where { reading: Reading::Whole, source } => format!("where-whole src={}", hex(source)),
+        Request::Where { reading: Reading::Name, source } => format!("where-name src={}", hex(source)),
     }
 }
 
@@ -100,6 +103,9 @@ pub fn request(line: &str) -> Request {
         }
         "first" => Request::First { table: table() },
         "address" => Request::Address { octets: source().try_into().expect("twenty octets") },
+        "where-leading" => Request::Where { reading: Reading::Leading, source: source() },
+        "where-whole" => Request::Where { reading: Reading::Whole, source: source() },
+        "where-name" => Request::Where { reading: Reading::Name, source: source() },
         _ => panic!("no such op: {op}"),
     }
 }

@@ -5,6 +5,15 @@ use crate::table::{Table, NUMBERS};
 /// The most octets of a source and of an output.
 pub const MOST: usize = 70_000;
 
+/// What a slice is read as.
+#[derive(Clone, Copy, Debug, PartialEq, Eq)]
+pub enum Reading {
+    Leading,
+    Whole,
+    Name,
+}
+
+/// What is asked; `Where` is a reading whose line tells where it broke.
 #[derive(Clone, PartialEq, Eq)]
 pub enum Request {
     Read { whole: bool, source: Vec<u8> },
@@ -16,6 +25,7 @@ pub enum Request {
     WriteName { id: (u32, u32), kind: (u32, u32), room: usize, source: Vec<u8> },
     First { table: Table },
     Address { octets: [u8; 20] },
+    Where { reading: Reading, source: Vec<u8> },
 }
 
 /// Why no request could be taken.
@@ -87,6 +97,9 @@ impl<'a> Input<'a> {
             8 => Request::WriteName { id: self.view()?, kind: self.view()?, room: self.size()?, source: self.source()? },
             9 => Request::First { table: self.table()? },
             10 => Request::Address { octets: self.octets(20)?.try_into().expect("twenty octets") },
+            11 => Request::Where { reading: Reading::Leading, source: self.source()? },
+            12 => Request::Where { reading: Reading::Whole, source: self.source()? },
+            13 => Request::Where { reading: Reading::Name, source: self.source()? },
             _ => return Err(Stop::Bad),
         })
     }
@@ -125,6 +138,9 @@ impl Request {
             Request::WriteName { .. } => 8,
             Request::First { .. } => 9,
             Request::Address { .. } => 10,
+            Request::Where { reading: Reading::Leading, .. } => 11,
+            Request::Where { reading: Reading::Whole, .. } => 12,
+            Request::Where { reading: Reading::Name, .. } => 13,
         }
     }
 
@@ -132,7 +148,10 @@ impl Request {
     pub fn put(&self, out: &mut Vec<u8>) {
         out.push(self.op() as u8);
         match self {
-            Request::Read { source, .. } | Request::Kind { source } | Request::ReadName { source } => put_source(out, source),
+            Request::Read { source, .. }
+            | Request::Kind { source }
+            | Request::ReadName { source }
+            | Request::Where { source, .. } => put_source(out, source),
             Request::Length { table, source } => {
                 put_table(out, table);
                 put_source(out, source);

@@ -2,19 +2,20 @@
 
 use super::random::Random;
 use super::tables::unfit;
-use crate::request::{Request, MOST};
+use crate::request::{Reading, Request, MOST};
 use crate::table::Table;
 
 /// A request with an empty source, whose count is then its last four octets.
 fn without_source(random: &mut Random, room: usize) -> Request {
     let (table, source) = (Table::empty(), Vec::new());
-    match random.below(7) {
+    match random.below(8) {
         0 => Request::Read { whole: random.one_in(2), source },
         1 => Request::Length { table, source },
         2 => Request::Write { table, room, source },
         3 => Request::Kind { source },
         4 => Request::Tap { use_: 0x0016, selector: source },
         5 => Request::ReadName { source },
+        6 => Request::Where { reading: random.pick(&[Reading::Leading, Reading::Whole, Reading::Name]), source },
         _ => Request::WriteName { id: (0, 0), kind: (0, 0), room, source },
     }
 }
@@ -52,7 +53,7 @@ fn put_unfit(random: &mut Random, run: &mut Vec<u8>) {
 /// Puts a bad request behind a run.
 pub fn put(random: &mut Random, run: &mut Vec<u8>) {
     match random.below(5) {
-        0 => run.push(random.pick(&[0, 11, 12, 49, 128, 255])),
+        0 => run.push(random.pick(&[0, 14, 15, 49, 128, 255])),
         1 => put_long_source(random, run),
         2 => put_long_output(random, run),
         _ => put_unfit(random, run),

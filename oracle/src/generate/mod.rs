@@ -9,16 +9,30 @@ mod sweep;
 mod tables;
 
 use crate::listing::put_record;
-use crate::request::Request;
+use crate::request::{Reading, Request};
 use random::Random;
 use sweep::Sweep;
 
 /// The word that asks for the sweep among the ops.
 const SWEEP: &str = "sweep";
 
-/// What can be asked for, and its weight in the mix: ops 1 to 10, and requests of the sweep.
-const WEIGHTS: [(&str, usize); 11] =
-    [("1", 22), ("2", 22), ("3", 9), ("4", 14), ("5", 3), ("6", 3), ("7", 8), ("8", 8), ("9", 4), ("10", 3), (SWEEP, 4)];
+/// What can be asked for, and its weight in the mix, of 100: ops 1 to 13, and requests of the sweep.
+const WEIGHTS: [(&str, usize); 14] = [
+    ("1", 14),
+    ("2", 14),
+    ("3", 9),
+    ("4", 13),
+    ("5", 3),
+    ("6", 3),
+    ("7", 5),
+    ("8", 7),
+    ("9", 3),
+    ("10", 3),
+    ("11", 9),
+    ("12", 9),
+    ("13", 4),
+    (SWEEP, 4),
+];
 
 pub struct Generator {
     seed: u64,
@@ -31,7 +45,7 @@ impl Generator {
     pub fn new(seed: u64, ops: Option<&str>) -> Result<Generator, String> {
         let weight = |op: &str| {
             let found = WEIGHTS.iter().find(|(name, _)| *name == op);
-            found.copied().ok_or(format!("OPS must be a list with commas of 1 to 10 and {SWEEP}; '{op}' is none of them"))
+            found.copied().ok_or(format!("OPS must be a list with commas of 1 to 13 and {SWEEP}; '{op}' is none of them"))
         };
         let chosen = match ops {
             None => WEIGHTS.to_vec(),
@@ -62,10 +76,13 @@ impl Generator {
             "4" => tables::write(random),
             "5" => short::kind(random),
             "6" => short::tap(random),
-            "7" => short::read_name(random),
+            "7" => Request::ReadName { source: short::name(random) },
             "8" => short::write_name(random),
             "9" => tables::first(random),
             "10" => short::address(random),
+            "11" => Request::Where { reading: Reading::Leading, source: octets::reference(random) },
+            "12" => Request::Where { reading: Reading::Whole, source: octets::reference(random) },
+            "13" => Request::Where { reading: Reading::Name, source: short::name(random) },
             _ => self.swept(random, index),
         }
     }

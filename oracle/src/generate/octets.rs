@@ -13,11 +13,24 @@ enum Container {
     LiteOptions,
 }
 
+/// What is done to a container's contents.
+#[derive(Clone, Copy)]
+enum Harm {
+    /// The last so many octets go.
+    Cut(usize),
+    /// The first so many octets stay.
+    Keep(usize),
+    /// A cut in a field, or in the tag before it.
+    CutField,
+    /// So many octets are put behind.
+    Slack(usize),
+}
+
 #[derive(Clone, Copy)]
 struct Damage {
+    part: usize,
     container: Container,
-    cut: bool,
-    octets: usize,
+    harm: Harm,
 }
 
 struct Field {
@@ -25,16 +38,22 @@ struct Field {
     width: usize,
 }
 
-/// A reference in the making, and where its length and count fields stand.
+/// A reference in the making, where its length and count fields stand, and where the data of known profiles begin.
 struct Draft<'a> {
     random: &'a mut Random,
     octets: Vec<u8>,
     fields: Vec<Field>,
+    fronts: Vec<usize>,
+    parts_put: usize,
     damage: Option<Damage>,
     dvb: bool,
 }
 
-impl Draft<'_> {
+impl<'a> Draft<'a> {
+    fn new(random: &'a mut Random, damage: Option<Damage>, dvb: bool) -> Draft<'a> {
+        Draft { random, octets: Vec::new(), fields: Vec::new(), fronts: Vec::new(), parts_put: 0, damage, dvb }
+    }
+
     fn constant(&mut self, width: usize, value: u64) {
         self.octets.extend_from_slice(&value.to_be_bytes()[8 - width..]);
     }
@@ -56,22 +75,36 @@ impl Draft<'_> {
     }
 
     fn close(&mut self, container: Container, start: usize, width: usize) {
-        if self.damage.is_some_and(|damage| damage.container == container) {
-            let damage = self.damage.take().expect("there is damage to do");
-            self.hurt(damage, start);
+        if let Some(damage) = self.damage.filter(|damage| (damage.part, damage.container) == (self.parts_put, container)) {
+            self.hurt(damage.harm, start);
         }
         let length = (self.octets.len() - start) as u64;
         self.octets[start - width..start].copy_from_slice(&length.to_be_bytes()[8 - width..]);
     }
 
-    fn hurt(&mut self, damage: Damage, start: usize) {
-        if damage.cut {
-            let left = self.octets.len() - start;
-            self.octets.truncate(start + left.saturating_sub(damage.octets));
-            let end = self.octets.len();
-            self.fields.retain(|field| field.at + field.width <= end);
-        } else {
-            self.filler(damage.octets);
+    fn hurt(&mut self, harm: Harm, start: usize) {
+        match harm {
+            Harm::Cut(octets) => self.cut(start.max(self.octets.len().saturating_sub(octets))),
+            Harm::Keep(octets) => self.cut(start + octets),
+            Harm::CutField => self.cut_field(start),
+            Harm::Slack(octets) => self.filler(octets),
+        }
+    }
+
+    /// Ends the octets there, and forgets the fields that are not whole any more.
+    fn cut(&mut self, end: usize) {
+        self.octets.truncate(end);
+        self.fields.retain(|field| field.at + field.width <= end);
+        self.fronts.retain(|front| front + 2 <= end);
+    }
+
+    /// A cut in a field that stands at `start` or behind it, if there is one, or in the tag before it.
+    fn cut_field(&mut self, start: usize) {
+        let first = self.fields.partition_point(|field| field.at < start);
+        if first < self.fields.len() {
+            let Field { at, width } = self.fields[self.random.between(first, self.fields.len() - 1)];
+            let end = (at + width).saturating_sub(self.random.between(0, 5));
+            self.cut(end.max(start));
         }
     }
 
@@ -137,6 +170,13 @@ impl Draft<'_> {
         self.close(Container::Service, start, 4);
     }
 
+    /// What the data of a known profile begin with: the order octet and the component count.
+    fn front(&mut self, components: usize) {
+        self.fronts.push(self.octets.len());
+        self.constant(1, 0);
+        self.field(1, components);
+    }
+
     fn part(&mut self, part: &Part) {
         match part {
             Part::Opaque { tag, data } => {
@@ -147,8 +187,7 @@ impl Draft<'_> {
             Part::Biop { key, taps, extras } => {
                 self.constant(4, TAG_BIOP as u64);
                 let start = self.open(4);
-                self.constant(1, 0);
-                self.field(1, 2 + extras.len());
+                self.front(2 + extras.len());
                 self.location(*key);
                 self.binder(taps);
                 self.extras(extras);
@@ -157,8 +196,7 @@ impl Draft<'_> {
             Part::LiteOptions { names, context, extras } => {
                 self.constant(4, TAG_LITE_OPTIONS as u64);
                 let start = self.open(4);
-                self.constant(1, 0);
-                self.field(1, 1 + extras.len());
+                self.front(1 + extras.len());
                 self.service(names, *context);
                 self.extras(extras);
                 self.close(Container::LiteOptions, start, 4);
@@ -179,7 +217,10 @@ impl Draft<'_> {
     fn plan(&mut self, plan: &Plan) {
         self.type_id(plan.type_id);
         self.field(4, plan.parts.len());
-        plan.parts.iter().for_each(|part| self.part(part));
+        for part in &plan.parts {
+            self.part(part);
+            self.parts_put += 1;
+        }
     }
 
     /// Another number in one of the length and count fields.
@@ -193,31 +234,43 @@ impl Draft<'_> {
         self.octets[at..at + width].copy_from_slice(&new[8 - width..]);
     }
 
-    /// A cut somewhere, or just before or inside a field.
+    /// A cut somewhere, or in a field or the tag before it.
     fn truncate(&mut self) {
-        let end = match self.fields.last() {
-            Some(_) if self.random.one_in(2) => {
-                let field = &self.fields[self.random.below(self.fields.len())];
-                field.at + self.random.between(0, field.width)
-            }
-            _ => self.random.between(0, self.octets.len()),
-        };
-        self.octets.truncate(end);
-        self.fields.retain(|field| field.at + field.width <= end);
+        if self.random.one_in(2) {
+            self.cut_field(0);
+        } else {
+            let end = self.random.between(0, self.octets.len());
+            self.cut(end);
+        }
     }
 
     fn insert(&mut self) {
         let at = self.random.between(0, self.octets.len());
         let octet = self.random.number() as u8;
         self.octets.insert(at, octet);
-        self.fields.clear();
+        self.forget();
     }
 
     fn remove(&mut self) {
         if !self.octets.is_empty() {
             let at = self.random.below(self.octets.len());
             self.octets.remove(at);
-            self.fields.clear();
+            self.forget();
+        }
+    }
+
+    /// Nothing stands where it stood.
+    fn forget(&mut self) {
+        self.fields.clear();
+        self.fronts.clear();
+    }
+
+    /// Another order octet, or too few components.
+    fn spoil_front(&mut self) {
+        if !self.fronts.is_empty() {
+            let front = self.random.pick(&self.fronts);
+            let (at, values) = if self.random.one_in(2) { (front, [0x01, 0xFF]) } else { (front + 1, [0, 1]) };
+            self.octets[at] = self.random.pick(&values);
         }
     }
 
@@ -229,11 +282,12 @@ impl Draft<'_> {
     }
 
     fn mutate(&mut self) {
-        match self.random.below(8) {
+        match self.random.below(9) {
             0..=2 => self.lie(),
             3 | 4 => self.truncate(),
             5 => self.insert(),
             6 => self.remove(),
+            7 => self.spoil_front(),
             _ => self.change(),
         }
     }
@@ -244,20 +298,39 @@ impl Draft<'_> {
     }
 }
 
-fn damage(random: &mut Random) -> Damage {
+/// The containers of a profile.
+fn containers(part: &Part) -> &'static [Container] {
     use Container::*;
-    Damage {
-        container: random.pick(&[Location, Binder, Biop, Service, LiteOptions]),
-        cut: random.one_in(2),
-        octets: if random.one_in(2) { random.between(1, 4) } else { random.between(1, 60) },
+    match part {
+        Part::Opaque { .. } => &[],
+        Part::Biop { .. } => &[Location, Binder, Biop],
+        Part::LiteOptions { .. } => &[Service, LiteOptions],
     }
+}
+
+/// Damage to some profile of a plan, where one of them has a container.
+fn damage(random: &mut Random, plan: &Plan) -> Option<Damage> {
+    let known: Vec<usize> = (0..plan.parts.len()).filter(|part| !containers(&plan.parts[*part]).is_empty()).collect();
+    if known.is_empty() {
+        return None;
+    }
+    let part = random.pick(&known);
+    let container = random.pick(containers(&plan.parts[part]));
+    let octets = if random.one_in(2) { random.between(1, 4) } else { random.between(1, 60) };
+    let harm = match random.below(6) {
+        0 => Harm::Cut(octets),
+        1 => Harm::Keep(octets - 1),
+        2 | 3 => Harm::CutField,
+        _ => Harm::Slack(octets),
+    };
+    Some(Damage { part, container, harm })
 }
 
 fn drafted(random: &mut Random, plan: &Plan, damage: Option<Damage>) -> Vec<u8> {
     let dvb = random.one_in(2);
     let mutations = if damage.is_some() { random.pick(&[0, 0, 0, 1]) } else { random.pick(&[0, 0, 1, 1, 1, 1, 2, 3]) };
     let appended = random.one_in(8);
-    let mut draft = Draft { random, octets: Vec::new(), fields: Vec::new(), damage, dvb };
+    let mut draft = Draft::new(random, damage, dvb);
     draft.plan(plan);
     (0..mutations).for_each(|_| draft.mutate());
     if appended {
@@ -268,7 +341,7 @@ fn drafted(random: &mut Random, plan: &Plan, damage: Option<Damage>) -> Vec<u8> 
 
 /// A well-formed reference of a plan.
 pub fn well_formed(random: &mut Random, plan: &Plan) -> Vec<u8> {
-    let mut draft = Draft { random, octets: Vec::new(), fields: Vec::new(), damage: None, dvb: true };
+    let mut draft = Draft::new(random, None, true);
     draft.plan(plan);
     draft.octets
 }
@@ -279,7 +352,7 @@ fn huge(random: &mut Random) -> Vec<u8> {
     let short = well_formed(random, &plan).len() + 8;
     let total = random.pick(&[65_534, 65_535, 65_536, 66_000, 70_000]);
     plan.parts.push(Part::Opaque { tag: 7, data: total - short });
-    let damage = random.one_in(4).then(|| damage(random));
+    let damage = random.one_in(4).then(|| damage(random, &plan)).flatten();
     let mut octets = drafted(random, &plan, damage);
     octets.truncate(70_000);
     octets
@@ -301,11 +374,11 @@ fn words(random: &mut Random) -> Vec<u8> {
 /// Octets to read a reference from.
 pub fn reference(random: &mut Random) -> Vec<u8> {
     match random.below(3000) {
-        0..=2 => huge(random),
-        3..=120 => words(random),
+        0..=7 => huge(random),
+        8..=120 => words(random),
         121..=420 => {
             let plan = crowded(random);
-            let damage = random.one_in(4).then(|| damage(random));
+            let damage = random.one_in(4).then(|| damage(random, &plan)).flatten();
             drafted(random, &plan, damage)
         }
         421..=540 => {
@@ -314,8 +387,8 @@ pub fn reference(random: &mut Random) -> Vec<u8> {
         }
         541..=1400 => {
             let plan = small(random);
-            let damage = damage(random);
-            drafted(random, &plan, Some(damage))
+            let damage = damage(random, &plan);
+            drafted(random, &plan, damage)
         }
         _ => {
             let plan = small(random);

@@ -68,7 +68,7 @@ fn type_id(random: &mut Random) -> usize {
 
 /// Few profiles with few entries.
 pub fn small(random: &mut Random) -> Plan {
-    let profiles = random.pick(&[0, 1, 1, 1, 2, 2, 3]);
+    let profiles = random.pick(&[0, 1, 1, 2, 2, 2, 3]);
     Plan { type_id: type_id(random), parts: (0..profiles).map(|_| small_part(random)).collect() }
 }
 

@@ -39,10 +39,11 @@ fn short_length(random: &mut Random) -> usize {
     }
 }
 
-pub fn read_name(random: &mut Random) -> Request {
-    if random.one_in(400) {
+/// Octets to read an 8-bit name from.
+pub fn name(random: &mut Random) -> Vec<u8> {
+    if random.one_in(200) {
         let size = random.pick(&[LIMIT, LIMIT + 1, MOST]);
-        return Request::ReadName { source: random.octets(size) };
+        return random.octets(size);
     }
     let mut source = Vec::new();
     for _ in 0..2 {
@@ -56,7 +57,7 @@ pub fn read_name(random: &mut Random) -> Request {
         1 => source.push(random.number() as u8),
         _ => {}
     }
-    Request::ReadName { source }
+    source
 }
 
 /// A view of a source of `size` octets, now and then one that passes its end.

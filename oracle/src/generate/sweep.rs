@@ -4,7 +4,7 @@ use super::octets::well_formed;
 use super::plan::{Part, Plan, TAG_BIOP, TAG_LITE_OPTIONS};
 use super::random::Random;
 use super::short::{ADDRESS, KINDS};
-use crate::request::Request;
+use crate::request::{Reading, Request};
 
 /// Some requests that a number below `size` chooses from.
 struct Segment {
@@ -35,6 +35,18 @@ fn sequence(digits: usize, number: usize) -> Vec<usize> {
     (0..length).map(|place| left / digits.pow(place) % digits).collect()
 }
 
+/// In how many ways each reference is read.
+const WAYS: usize = 3;
+
+/// Leading, whole, and with where it broke; whole, since that refuses all that the leading reading does, and leftover octets too.
+fn read(way: usize, source: Vec<u8>) -> Request {
+    match way {
+        0 => Request::Read { whole: false, source },
+        1 => Request::Read { whole: true, source },
+        _ => Request::Where { reading: Reading::Whole, source },
+    }
+}
+
 fn octet_names() -> Segment {
     segment(sequences(256, 2), |number| {
         let source = sequence(256, number).into_iter().map(|digit| digit as u8).collect();
@@ -44,20 +56,24 @@ fn octet_names() -> Segment {
 
 fn few_octet_names() -> Segment {
     const OCTETS: [u8; 6] = [0, 1, 2, 3, 4, 0xFF];
-    segment(sequences(OCTETS.len(), 5), |number| {
-        let source = sequence(OCTETS.len(), number).into_iter().map(|digit| OCTETS[digit]).collect();
-        Request::ReadName { source }
+    segment(2 * sequences(OCTETS.len(), 5), |number| {
+        let source = sequence(OCTETS.len(), number / 2).into_iter().map(|digit| OCTETS[digit]).collect();
+        if number % 2 == 0 {
+            Request::ReadName { source }
+        } else {
+            Request::Where { reading: Reading::Name, source }
+        }
     })
 }
 
-/// Up to four words of a reference, then up to three octets more, read in both ways.
+/// Up to four words of a reference, then up to three octets more.
 fn words() -> Segment {
     const WORDS: [u32; 10] = [0, 1, 3, 4, 8, 16, 0xFFFF_FFFF, TAG_BIOP, TAG_LITE_OPTIONS, 0x7372_6700];
-    segment(8 * sequences(WORDS.len(), 4), |number| {
-        let words = sequence(WORDS.len(), number / 8);
+    segment(4 * WAYS * sequences(WORDS.len(), 4), |number| {
+        let words = sequence(WORDS.len(), number / 4 / WAYS);
         let mut source: Vec<u8> = words.into_iter().flat_map(|digit| WORDS[digit].to_be_bytes()).collect();
         source.resize(source.len() + number % 4, 0);
-        Request::Read { whole: number % 8 < 4, source }
+        read(number / 4 % WAYS, source)
     })
 }
 
@@ -82,9 +98,9 @@ fn changes(sample: Vec<u8>) -> Segment {
     const INSERTED: [u8; 3] = [0x00, 0x01, 0xFF];
     let length = sample.len();
     let (cuts, values, removals, insertions) = (length + 1, 256 * length, length, INSERTED.len() * (length + 1));
-    segment(2 * (cuts + values + removals + insertions), move |number| {
+    segment(WAYS * (cuts + values + removals + insertions), move |number| {
         let mut source = sample.clone();
-        let mut left = number / 2;
+        let mut left = number / WAYS;
         if left < cuts {
             source.truncate(left);
         } else if left < cuts + values {
@@ -96,7 +112,7 @@ fn changes(sample: Vec<u8>) -> Segment {
             left -= cuts + values + removals;
             source.insert(left / INSERTED.len(), INSERTED[left % INSERTED.len()]);
         }
-        Request::Read { whole: number % 2 == 1, source }
+        read(number % WAYS, source)
     })
 }
 
