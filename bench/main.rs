@@ -8,6 +8,7 @@ use std::hint::black_box;
 use std::time::Instant;
 
 const TABLE: usize = 490;
+const ANSWER: usize = 6;
 const ROUNDS: usize = 40;
 
 #[link(name = "ior_c", kind = "static")]
@@ -27,16 +28,16 @@ extern "C" {
     fn ior_kind(type_id: *const u8, n: usize, kind: *mut u32, kinds: usize) -> u32;
 }
 
-fn read(s: &[u8], table: &mut [u32; TABLE], answer: &mut [u64; 5]) -> u32 {
-    unsafe { ior_read(s.as_ptr(), s.len(), table.as_mut_ptr(), TABLE, answer.as_mut_ptr(), 5) }
+fn read(s: &[u8], table: &mut [u32; TABLE], answer: &mut [u64; ANSWER]) -> u32 {
+    unsafe { ior_read(s.as_ptr(), s.len(), table.as_mut_ptr(), TABLE, answer.as_mut_ptr(), ANSWER) }
 }
 
-fn length(table: &[u32; TABLE], s: &[u8], answer: &mut [u64; 5]) -> u32 {
-    unsafe { ior_length(table.as_ptr(), TABLE, s.as_ptr(), s.len(), answer.as_mut_ptr(), 5) }
+fn length(table: &[u32; TABLE], s: &[u8], answer: &mut [u64; ANSWER]) -> u32 {
+    unsafe { ior_length(table.as_ptr(), TABLE, s.as_ptr(), s.len(), answer.as_mut_ptr(), ANSWER) }
 }
 
-fn write(table: &[u32; TABLE], s: &[u8], out: &mut [u8], answer: &mut [u64; 5]) -> u32 {
-    unsafe { ior_write(table.as_ptr(), TABLE, s.as_ptr(), s.len(), out.as_mut_ptr(), out.len(), answer.as_mut_ptr(), 5) }
+fn write(table: &[u32; TABLE], s: &[u8], out: &mut [u8], answer: &mut [u64; ANSWER]) -> u32 {
+    unsafe { ior_write(table.as_ptr(), TABLE, s.as_ptr(), s.len(), out.as_mut_ptr(), out.len(), answer.as_mut_ptr(), ANSWER) }
 }
 
 fn kind(type_id: &[u8], number: &mut [u32; 1]) -> u32 {
@@ -161,7 +162,7 @@ fn times(references: &[Vec<u8>]) -> Times {
     let count = references.len();
     let octets: usize = references.iter().map(Vec::len).sum();
     let turns = (2_000_000 / (octets + 60 * count)).max(1);
-    let mut answer = [0u64; 5];
+    let mut answer = [0u64; ANSWER];
     let mut tables = vec![[0u32; TABLE]; count];
     let values: Vec<Ior> = references.iter().map(|r| Ior::parse_at(r).expect("a reference").0).collect();
     let mut out = vec![0u8; 65_536];
@@ -177,7 +178,7 @@ fn times(references: &[Vec<u8>]) -> Times {
     }
     let mut table = [0u32; TABLE];
     let mut theirs = out.clone();
-    let mut a = [0u64; 5];
+    let mut a = [0u64; ANSWER];
     let read = best(
         count,
         turns,
@@ -261,7 +262,7 @@ fn kinds(count: usize) -> (f64, f64) {
 /// Reading alone, of references that do not fit the tables.
 fn crowded(octets: &[u8]) -> (f64, f64) {
     let mut table = [0u32; TABLE];
-    let mut answer = [0u64; 5];
+    let mut answer = [0u64; ANSWER];
     let turns = (1_000_000 / octets.len()).max(1);
     best(
         1,

@@ -4,7 +4,8 @@
  * run at once, in several threads, if no array that one of them writes is lent to another of them.
  *
  * A reference's contents are told in a table of 490 numbers (struct ior_table). Octets stay where they are: a view is an offset and a length in the
- * source. An answer is five numbers (struct ior_answer): the refusal's number, its place, two figures, and a count.
+ * source. An answer is six numbers (struct ior_answer): the refusal's number, its place, two figures, a count, and the offset in the source at which a
+ * reading broke.
  *
  * What a caller must keep. Each array is a pointer and a length in elements.
  *   - The pointer is aligned for its elements and valid for as many as the length says: to read, and where it is not const to write.
@@ -35,7 +36,7 @@ extern "C" {
 
 enum {
     IOR_TABLE = 490,       /* numbers of a table */
-    IOR_ANSWER = 5,        /* numbers of an answer */
+    IOR_ANSWER = 6,        /* numbers of an answer */
     IOR_PROFILES = 8,      /* the most profiles, taps, names and extras of one reference */
     IOR_TAPS = 36,
     IOR_NAMES = 32,
@@ -62,7 +63,10 @@ enum {
 
 /* ---- where an answer's numbers stand */
 
-enum { IOR_ANSWER_NUMBER = 0, IOR_ANSWER_PLACE = 1, IOR_ANSWER_FIRST = 2, IOR_ANSWER_SECOND = 3, IOR_ANSWER_COUNT = 4 };
+enum {
+    IOR_ANSWER_NUMBER = 0, IOR_ANSWER_PLACE = 1, IOR_ANSWER_FIRST = 2, IOR_ANSWER_SECOND = 3, IOR_ANSWER_COUNT = 4,
+    IOR_ANSWER_OFFSET = 5  /* of a reading refused with 1 to 4: the first octet of what is cut off, left over, too long or wrong; else 0 */
+};
 
 /* ---- where a table's numbers stand */
 

@@ -118,7 +118,7 @@ static void put_word(const char *word) {
     while (*word != 0) put(*word++);
 }
 
-/* The five numbers; 255 is a bad request, and any other result must be the answer's first number. */
+/* So many of the answer's numbers; 255 is a bad request, and any other result must be the first of them. */
 static void put_answer(uint32_t result, size_t count) {
     if (result == IOR_NOT_ASKED) bad();
     if (result != answer[0]) put_word("another result ");
@@ -145,6 +145,18 @@ static void answer_read(uint32_t (*reads)(const uint8_t *, size_t, uint32_t *, s
     memset(table, 0, sizeof table);
     put_answer(reads(source, n, table, IOR_TABLE, answer, IOR_ANSWER), 5);
     put_table();
+}
+
+/* What ops 11 to 13 tell of an answer: the offset before the count. */
+static void put_where(uint32_t result) {
+    put_answer(result, 4);
+    put(' '), put_number(answer[IOR_ANSWER_OFFSET]);
+    put(' '), put_number(answer[IOR_ANSWER_COUNT]);
+}
+
+static void answer_where(uint32_t (*reads)(const uint8_t *, size_t, uint32_t *, size_t, uint64_t *, size_t)) {
+    size_t n = take_source();
+    put_where(reads(source, n, table, IOR_TABLE, answer, IOR_ANSWER));
 }
 
 static void answer_length(void) {
@@ -198,6 +210,12 @@ static void answer_name_read(void) {
     for (size_t i = 0; i < 4; i++) put(' '), put_number(name[i]);
 }
 
+static void answer_name_where(void) {
+    uint32_t name[4];
+    size_t n = take_source();
+    put_where(ior_name_read(source, n, name, 4, answer, IOR_ANSWER));
+}
+
 static void answer_name_write(void) {
     uint32_t name[4];
     size_t room, n;
@@ -242,6 +260,9 @@ int main(int argc, char **argv) {
             case 8: answer_name_write(); break;
             case 9: answer_first(); break;
             case 10: answer_address(); break;
+            case 11: answer_where(ior_read); break;
+            case 12: answer_where(ior_read_whole); break;
+            case 13: answer_name_where(); break;
             default: bad();
         }
         put('\n');

@@ -40,9 +40,9 @@ static void inexact(const char *what, size_t used, size_t at, uint32_t value, ui
 }
 
 int main(void) {
-    static const size_t lengths[] = {0, 1, 2, 3, 4, 5, 6, 489, 490, 491};
-    for (size_t i = 0; i < 10; i++)
-        for (size_t j = 0; j < 7; j++) {
+    static const size_t lengths[] = {0, 1, 2, 3, 4, 5, 6, 7, 489, 490, 491};
+    for (size_t i = 0; i < 11; i++)
+        for (size_t j = 0; j < 8; j++) {
             size_t t = lengths[i], a = lengths[j];
             dirty();
             if (t != IOR_TABLE || a != IOR_ANSWER) {

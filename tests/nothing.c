@@ -32,9 +32,9 @@ static void check(const char *what, int holds) {
     failures++;
 }
 
-/* The five numbers of an answer. */
+/* An answer: five of its numbers, and the sixth is 0, since nothing here breaks behind the first octet. */
 static int answers(uint64_t number, uint64_t place, uint64_t first, uint64_t second, uint64_t count) {
-    return answer[0] == number && answer[1] == place && answer[2] == first && answer[3] == second && answer[4] == count;
+    return answer[0] == number && answer[1] == place && answer[2] == first && answer[3] == second && answer[4] == count && answer[5] == 0;
 }
 
 /* Nothing was asked: 255, and every array is as `begin` left it. */

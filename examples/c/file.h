@@ -39,8 +39,9 @@ static long file_octets(const char *path, uint8_t *octets) {
     return bad ? -1 : (long)n;
 }
 
-/* Says why a call was not accepted. 255 comes first: it leaves the answer as it was before the call, so there is nothing in it to tell. */
-static int report(const char *path, uint32_t result, const struct ior_answer *a) {
+/* Says why a call was not accepted; of a reading, where in the file it broke. 255 comes first: it leaves the answer as it was before the call, so there is
+ * nothing in it to tell. */
+static int report(const char *path, int is_reading, uint32_t result, const struct ior_answer *a) {
     static const char *const why[] = {
         "accepted", "cut off, or octets left over", "a length passes its end", "a wrong octet or tag", "a number out of range",
         "no room in the output", "the source is too large", "a table is too small", "counts disagree", "a view lies outside the source",
@@ -49,9 +50,11 @@ static int report(const char *path, uint32_t result, const struct ior_answer *a)
         fprintf(stderr, "%s: not asked: an array has another length than it must have, or the table is not exact\n", named(path));
         return FAILED;
     }
-    fprintf(stderr, "%s: refused: %s (number %u, place %llu, %llu, %llu)\n", named(path), why[result], (unsigned)result,
+    fprintf(stderr, "%s: refused: %s (number %u, place %llu, %llu, %llu)", named(path), why[result], (unsigned)result,
             (unsigned long long)a->number[IOR_ANSWER_PLACE], (unsigned long long)a->number[IOR_ANSWER_FIRST],
             (unsigned long long)a->number[IOR_ANSWER_SECOND]);
+    if (is_reading && result <= IOR_OUT_OF_RANGE) fprintf(stderr, " at octet %llu", (unsigned long long)a->number[IOR_ANSWER_OFFSET]);
+    fprintf(stderr, "\n");
     return REFUSED;
 }
 

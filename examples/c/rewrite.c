@@ -41,11 +41,11 @@ int main(int argc, char **argv) {
     n = file_octets(argv[1], source);
     if (n < 0) return failed(argv[1], "read");
     result = ior_read_into(source, (size_t)n, &table, &answer);
-    if (result != IOR_ACCEPTED) return report(argv[1], result, &answer);
+    if (result != IOR_ACCEPTED) return report(argv[1], 1, result, &answer);
     result = ior_length_of(&table, source, (size_t)n, &answer);
-    if (result != IOR_ACCEPTED) return report(argv[1], result, &answer);
+    if (result != IOR_ACCEPTED) return report(argv[1], 0, result, &answer);
     length = (size_t)answer.number[IOR_ANSWER_COUNT];
     result = ior_write_from(&table, source, (size_t)n, image, length, &answer);
-    if (result != IOR_ACCEPTED) return report(argv[1], result, &answer);
+    if (result != IOR_ACCEPTED) return report(argv[1], 0, result, &answer);
     return store(argv[2], length);
 }

@@ -88,7 +88,7 @@ int main(int argc, char **argv) {
     n = file_octets(argv[1], source);
     if (n < 0) return failed(argv[1], "read");
     result = ior_read_into(source, (size_t)n, &table, &answer);
-    if (result != IOR_ACCEPTED) return report(argv[1], result, &answer);
+    if (result != IOR_ACCEPTED) return report(argv[1], 1, result, &answer);
     printf("octets %llu of %ld\n", (unsigned long long)answer.number[IOR_ANSWER_COUNT], n);
     kind();
     for (size_t i = 0; i < table.number[IOR_PROFILES_USED]; i++) profile(i);

@@ -2,7 +2,7 @@
 //! writes nothing else, and is proved to stay inside them.
 
 pub const TABLE: usize = 490;
-pub const ANSWER: usize = 5;
+pub const ANSWER: usize = 6;
 
 mod c {
     extern "C" {

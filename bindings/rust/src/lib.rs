@@ -200,20 +200,20 @@ impl<'a> Reference<'a> {
         let mut reference = Reference { source, table: [0; TABLE] };
         let mut answer: Answer = [0; ANSWER];
         let result = calls::read(source, &mut reference.table, &mut answer);
-        Refusal::checked(result, &answer).map(|consumed| (reference, consumed))
+        Refusal::located(result, &answer).map(|consumed| (reference, consumed))
     }
 
     /// The reference that `source` is from its start to its end.
     ///
     /// ```
     /// let why = ior::Reference::read_whole(&[0; 9]).unwrap_err();
-    /// assert_eq!(why.to_string(), "octets left over: 1 behind the reference's end (refusal 1)");
+    /// assert_eq!(why.to_string(), "octets left over: 1 behind the reference's end, at octet 8 (refusal 1)");
     /// ```
     pub fn read_whole(source: &'a [u8]) -> Result<Self, Refusal> {
         let mut reference = Reference { source, table: [0; TABLE] };
         let mut answer: Answer = [0; ANSWER];
         let result = calls::read_whole(source, &mut reference.table, &mut answer);
-        Refusal::checked(result, &answer).map(|_| reference)
+        Refusal::located(result, &answer).map(|_| reference)
     }
 
     /// The octets of the type id.
@@ -305,7 +305,7 @@ impl<'a> ShortName<'a> {
         let mut views = [0; 4];
         let mut answer: Answer = [0; ANSWER];
         let result = calls::name_read(source, &mut views, &mut answer);
-        Refusal::checked(result, &answer).map(|consumed| (ShortName { source, views }, consumed))
+        Refusal::located(result, &answer).map(|consumed| (ShortName { source, views }, consumed))
     }
 
     /// Its id and its kind.

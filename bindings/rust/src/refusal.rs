@@ -1,14 +1,14 @@
-//! Refusals: a number, a place and two figures, and how they read in plain words.
+//! Refusals: a number, a place, two figures and where a reading broke, and how they read in plain words.
 
 use crate::calls::Answer;
 use core::fmt;
 
-/// Why a reference was not read or not written: the refusal's number, its place and two figures.
+/// Why a reference was not read or not written: the refusal's number, its place and two figures; of a reading, where it broke, too.
 ///
 /// ```
-/// let why = ior::Reference::read(&[0, 0, 0, 3, 0, 0, 0, 0]).unwrap_err();
-/// assert_eq!((why.number, why.place), (4, 33));
-/// assert_eq!(why.to_string(), "out of range: the type id's length (refusal 4)");
+/// let why = ior::Reference::read(&[0, 0, 0, 8, 0, 0, 0, 0]).unwrap_err();
+/// assert_eq!((why.number, why.first, why.second, why.offset()), (2, 8, 4, Some(4)));
+/// assert_eq!(why.to_string(), "too long: 8 octets declared, 4 available, at octet 4 (refusal 2)");
 /// ```
 #[derive(Clone, Copy, Debug, PartialEq, Eq, Hash)]
 pub struct Refusal {
@@ -20,6 +20,7 @@ pub struct Refusal {
     pub first: u64,
     /// The second figure, as octets there.
     pub second: u64,
+    offset: Option<usize>,
 }
 
 impl Refusal {
@@ -28,7 +29,20 @@ impl Refusal {
         if result == 0 {
             return Ok(answer[4] as usize);
         }
-        Err(Refusal { number: result as u8, place: answer[1] as u8, first: answer[2], second: answer[3] })
+        Err(Refusal { number: result as u8, place: answer[1] as u8, first: answer[2], second: answer[3], offset: None })
+    }
+
+    /// The same of a reading, which tells where it broke.
+    pub(crate) fn located(result: u32, answer: &Answer) -> Result<usize, Refusal> {
+        Refusal::checked(result, answer).map_err(|why| Refusal { offset: (result <= 4).then_some(answer[5] as usize), ..why })
+    }
+
+    /// Where in the source a reading broke, refused with 1 to 4: the first octet of what is cut off, left over, too long or wrong. None for 6, 7
+    /// and a writing.
+    ///
+    /// For 3 and 4 nothing behind the field that stands there is to blame: a source that agrees up to its end, and is not shorter, is refused alike.
+    pub fn offset(&self) -> Option<usize> {
+        self.offset
     }
 
     /// The name of the place; empty where there is none.
@@ -62,10 +76,10 @@ impl Refusal {
             26 => "a short name's id length",
             27 => "a short name's kind length",
             28 => "a BIOP profile's order octet",
-            29 => "a BIOP profile's first tag",
-            30 => "a BIOP profile's second tag",
+            29 => "an ObjectLocation's tag",
+            30 => "a ConnBinder's tag",
             31 => "a LiteOptions profile's order octet",
-            32 => "a LiteOptions profile's tag",
+            32 => "a ServiceLocation's tag",
             33 => "the type id's length",
             34 => "a BIOP profile's component count",
             35 => "a LiteOptions profile's component count",
@@ -99,6 +113,9 @@ impl fmt::Display for Refusal {
             9 => write!(f, "outside the source: {first} and {second} octets from there")?,
             10 => write!(f, "image too large: {first} octets, {second} allowed")?,
             _ => write!(f, "not asked as it must be")?,
+        }
+        if let Some(offset) = self.offset {
+            write!(f, ", at octet {offset}")?;
         }
         write!(f, " (refusal {})", self.number)
     }

@@ -1,6 +1,6 @@
 //! References on both sides of a line, entries as slices of the caller's octets, and damaged and random octets.
 
-use ior::{is_dvb_address, object_kind, ObjectKind, Reference, Refusal, ShortName, TaggedProfile};
+use ior::{is_dvb_address, object_kind, ObjectKind, Reference, ShortName, TaggedProfile};
 use std::hash::{DefaultHasher, Hash, Hasher};
 
 const J: [u8; 42] = [
@@ -113,7 +113,8 @@ fn what_is_written_is_what_was_read() {
         assert_eq!(out[octets.len()..], [0xA5; 3]);
         let mut little = vec![0xA5; octets.len() - 1];
         let why = reference.write(&mut little).unwrap_err();
-        assert_eq!(why, Refusal { number: 5, place: 0, first: octets.len() as u64, second: octets.len() as u64 - 1 });
+        assert_eq!((why.number, why.place, why.first, why.second), (5, 0, octets.len() as u64, octets.len() as u64 - 1));
+        assert_eq!(why.offset(), None, "a writing breaks nowhere in its source");
         assert!(little.iter().all(|octet| *octet == 0xA5));
     }
 }
@@ -223,11 +224,41 @@ fn short_names() {
     assert!(equal(&[1, 7, 1, 8, 1], &[1, 7, 1, 8, 2]));
     assert!(!equal(&[1, 7, 1, 8], &[1, 8, 1, 7]));
     assert!(!equal(&[2, 7, 8, 0], &[1, 7, 1, 8]));
-    assert_eq!(ShortName::read(&[2, 1]).unwrap_err().to_string(), "too long: 2 octets declared, 1 available (refusal 2)");
+    assert_eq!(
+        ShortName::read(&[2, 1]).unwrap_err().to_string(),
+        "too long: 2 octets declared, 1 available, at octet 1 (refusal 2)"
+    );
     assert_eq!(
         ShortName::read(&[]).unwrap_err().to_string(),
-        "cut off: a short name's id length, 1 octets needed, 0 there (refusal 1)"
+        "cut off: a short name's id length, 1 octets needed, 0 there, at octet 0 (refusal 1)"
     );
+}
+
+/// J with one octet changed: number, place, where it broke, and what is said of it.
+#[test]
+fn where_it_broke() {
+    for (at, octet, number, place, offset, said) in [
+        (3, 5, 4, 33, 0, "out of range: the type id's length, at octet 0 (refusal 4)"),
+        (20, 1, 3, 28, 20, "wrong: a BIOP profile's order octet, at octet 20 (refusal 3)"),
+        (21, 1, 4, 34, 21, "out of range: a BIOP profile's component count, at octet 21 (refusal 4)"),
+        (26, 8, 1, 7, 27, "cut off: an ObjectLocation's fixed fields, 16 octets needed, 15 there, at octet 27 (refusal 1)"),
+        (39, 0x41, 3, 30, 36, "wrong: a ConnBinder's tag, at octet 36 (refusal 3)"),
+        (40, 2, 2, 0, 41, "too long: 2 octets declared, 1 available, at octet 41 (refusal 2)"),
+    ] {
+        let mut octets = J.to_vec();
+        octets[at] = octet;
+        let why = Reference::read_whole(&octets).unwrap_err();
+        assert_eq!((why.number, why.place, why.offset()), (number, place, Some(offset)));
+        assert_eq!(why.to_string(), said);
+        assert_eq!(Reference::read(&octets).unwrap_err(), why);
+        if number >= 3 {
+            let field = offset + if matches!(place, 30 | 33) { 4 } else { 1 };
+            octets[field..].fill(0xA5);
+            assert_eq!(Reference::read_whole(&octets).unwrap_err(), why, "nothing behind the field is to blame");
+        }
+    }
+    let why = Reference::read(&vec![0; 65_536]).unwrap_err();
+    assert_eq!((why.number, why.offset()), (6, None));
 }
 
 #[test]
