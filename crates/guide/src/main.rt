@@ -98,13 +98,14 @@ fn write_anew(s: &[u8], t: Tables) -> bool {
     }
 }
 
-// A refusal's number, its place and its two figures. 2 has no place: its figures tell what was declared and what there was.
+// A reading's refusal: number, place, both figures, and the octet at which it broke. 2 has no place: its figures tell what was declared and what there was.
 fn say_refusal(why: Refusal) -> bool {
     let is_said = say_number(b"refusal ", wide(why.number))
         && (why.place == 0 || say_number(b"place ", wide(why.place)));
     is_said
         && say_number(b"first figure ", why.first as u64)
         && say_number(b"second figure ", why.second as u64)
+        && say_number(b"at octet ", why.offset as u64)
 }
 
 fn read_and_say(s: &[u8]) -> bool {

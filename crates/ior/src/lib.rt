@@ -1,6 +1,7 @@
 // The library's face: every public call, with what it does, what it refuses and what a refusal leaves. No call asks anything of its caller:
-// every slice, every table and every output gets an answer. A refusal is a number, a place and two figures (document 01); the promises
-// about these calls stand in proofs/Demands and, of those on a lent table, in proofs/Lent.
+// every slice, every table and every output gets an answer. A refusal is a number, a place and two figures (document 01), and of a reading the
+// offset in its slice where it broke (document 02, No. 3; else 0). The promises about these calls stand in proofs/Demands and, of those on a lent
+// table, in proofs/Lent.
 ghost use mathlib.Core.Path.{_≡_};
 ghost use Rattle.reference.specs.Steps.{seen};
 ghost use Rattle.reference.specs.Reader.{readLeading, readWhole, answered};
