@@ -151,8 +151,8 @@ module _ {d : List ℕ} {n pos : ℕ} {t₀ : List ℕ} where
 
           -- what is refused in the data is told of the slice
           module _ {x : Refusal} (f : v ≡ Bodies.Not x) where
-            pub offset-fits : length d ≤ 65535 → cur + 8 + x .offset ≤ 18446744073709551615
-            offset-fits small = omega (arith, body-inside tag bytes (length bytes) x (seen-no filledWith body (kept f)), data-small small)
+            pub offset-small : length d ≤ 65535 → x .offset ≤ 65535
+            offset-small small = omega (arith, body-inside tag bytes (length bytes) x (seen-no filledWith body (kept f)), data-small small)
 
             pub no-body : {y : Refusal} {e : List ℕ} → y ≡ shifted (cur + 8) x → Stored e (Ways.Not y)
             no-body q = refuse (by-body ∙ ap (outward (cur + 8) len) (seen-no filledWith body (kept f)) ∙ ap (λ (z : Refusal). refused z) (sym q))

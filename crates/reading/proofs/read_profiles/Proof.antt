@@ -1,7 +1,7 @@
 -- `reading::read_profiles` meets its contract. Each turn files one profile more; what is left to read does what was to be read, and counts stay below the position. Assumes nothing.
-use Prim.Native.Nat.{_-_}
+use Prim.Native.Nat.{_-_, _≤_}
 use borrow.Author.Needs.{needs}
-use Rattle.reading.proofs.Filing.{Files, none-yet, no-header, few, data-inside, next-fits, data-small, offset-fits, no-body, one-more, all-read}
+use Rattle.reading.proofs.Filing.{Files, none-yet, no-header, few, data-inside, next-fits, data-small, offset-small, no-body, one-more, all-read}
 use Rattle.reading.proofs.read_profiles.Statement.{statement}
 use Rattle.reading.proofs.read_profiles.Tie as tie
 
@@ -51,7 +51,7 @@ enum-known-within : tie.Need-enum-known-within Inv-loop μ-loop
 enum-known-within c = search needs
 
 shift-requires : tie.Need-shift-requires Inv-loop μ-loop
-shift-requires c κs = search offset-fits
+shift-requires c κs = let small : c .before .within .given .0 .0 .offset ≤ 65535 = search offset-small in search (needs, small)
 
 same-length-2 : tie.Need-same-length-2 Inv-loop μ-loop
 same-length-2 c = search needs
