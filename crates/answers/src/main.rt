@@ -30,10 +30,12 @@ use questions::first_biop;
 use questions::is_dvb;
 use questions::object_kind;
 use questions::tap_numbers;
-use reading::read_leading_into;
-use reading::read_whole_into;
+use reading::read_leading_into_by;
+use reading::read_whole_into_by;
+use reference::AddressWay;
 use reference::Answer;
 use reference::NameComponent;
+use reference::TypeIdRule;
 use reference::View;
 use survey::is_exact;
 use table::SIZE;
@@ -41,7 +43,7 @@ use table::clear;
 use table_struct::tables_of;
 use text::put_octet;
 use text::put_word;
-use writing::write_from;
+use writing::write_from_by;
 
 // How many octets the numbers of a table have in a request.
 const TABLE_OCTETS: usize = 4 * SIZE;
@@ -175,27 +177,52 @@ fn fill(out: &mut [u8])
 
 // ---- one function for each op
 
+fn read_by(is_whole: bool, src: &[u8], table: &mut [u32], rule: TypeIdRule) -> Answer
+    requires { ⌜ Lent (now table) ⌝ }
+{
+    if is_whole {
+        return read_whole_into_by(src, table, rule);
+    }
+    read_leading_into_by(src, table, rule)
+}
+
+// What a reading answered; where it broke, too, if that is asked.
+fn put_reading(answer: Answer, is_where: bool, line: &mut [u8]) -> usize
+    requires { ⌜ length (now line) ≡ 150000 ⌝ }
+    ensures { λ r. ⌜ r ≤ 106 ⌝ }
+{
+    if is_where {
+        return put_where(line, 0, answer);
+    }
+    put_answer(line, 0, answer)
+}
+
 // The line of a reading; a table of zeros is lent to it, so that its unused entries are zero.
-fn read_line(is_whole: bool, src: &[u8], table: &mut [u32], line: &mut [u8]) -> usize
+fn read_line(
+    is_whole: bool,
+    is_where: bool,
+    rule: TypeIdRule,
+    src: &[u8],
+    table: &mut [u32],
+    line: &mut [u8],
+) -> usize
     requires { ⌜ Lent (now table) × (length (now line) ≡ 150000) ⌝ }
     ensures { λ r. ⌜ r ≤ 149999 ⌝ }
 {
     clear(table);
-    let answer = read_by(is_whole, src, table);
-    let at = put_answer(line, 0, answer);
+    let answer = read_by(is_whole, src, table, rule);
+    let at = put_reading(answer, is_where, line);
     put_table(line, at, table)
 }
 
-fn read_by(is_whole: bool, src: &[u8], table: &mut [u32]) -> Answer
-    requires { ⌜ Lent (now table) ⌝ }
-{
-    if is_whole {
-        return read_whole_into(src, table);
-    }
-    read_leading_into(src, table)
-}
-
-fn answer_reading(is_whole: bool, table: &mut [u32], src: &mut [u8], line: &mut [u8]) -> Found
+fn answer_reading(
+    is_whole: bool,
+    is_where: bool,
+    rule: TypeIdRule,
+    table: &mut [u32],
+    src: &mut [u8],
+    line: &mut [u8],
+) -> Found
     requires { ⌜ Lent (now table) × (length (now src) ≡ 70000) × (length (now line) ≡ 150000) ⌝ }
     ensures { λ r. ⌜ r .count ≤ 149999 ⌝ }
 {
@@ -204,7 +231,7 @@ fn answer_reading(is_whole: bool, table: &mut [u32], src: &mut [u8], line: &mut 
         return none(taken.is_failure);
     }
     let n = taken.count;
-    counted(read_line(is_whole, &src[..n], table, line))
+    counted(read_line(is_whole, is_where, rule, &src[..n], table, line))
 }
 
 // The line that tells where a reading broke.
@@ -217,11 +244,11 @@ fn answer_where(is_whole: bool, table: &mut [u32], src: &mut [u8], line: &mut [u
         return none(taken.is_failure);
     }
     let n = taken.count;
-    let answer = read_by(is_whole, &src[..n], table);
+    let answer = read_by(is_whole, &src[..n], table, TypeIdRule::Multiple);
     counted(put_where(line, 0, answer))
 }
 
-fn answer_length(table: &mut [u32], src: &mut [u8], line: &mut [u8]) -> Found
+fn answer_length(rule: TypeIdRule, table: &mut [u32], src: &mut [u8], line: &mut [u8]) -> Found
     requires { ⌜ Lent (now table) × (length (now src) ≡ 70000) × (length (now line) ≡ 150000) ⌝ }
     ensures { λ r. ⌜ r .count ≤ 149999 ⌝ }
 {
@@ -234,7 +261,7 @@ fn answer_length(table: &mut [u32], src: &mut [u8], line: &mut [u8]) -> Found
         return none(taken.is_failure);
     }
     let n = taken.count;
-    let answer = length_from(table, &src[..n]);
+    let answer = length_from(table, &src[..n], rule);
     counted(put_answer(line, 0, answer))
 }
 
@@ -247,16 +274,30 @@ fn written_line(answer: Answer, out: &[u8], line: &mut [u8]) -> usize
     put_output(line, at, out)
 }
 
-fn write_line(table: &[u32], src: &[u8], out: &mut [u8], line: &mut [u8]) -> usize
+fn write_line(
+    rule: TypeIdRule,
+    way: AddressWay,
+    table: &[u32],
+    src: &[u8],
+    out: &mut [u8],
+    line: &mut [u8],
+) -> usize
     requires { ⌜ Lent (now table) × (length (now out) ≤ 70000) × (length (now line) ≡ 150000) ⌝ }
     ensures { λ r. ⌜ r ≤ 149999 ⌝ }
 {
     fill(out);
-    let answer = write_from(table, src, out);
+    let answer = write_from_by(table, src, out, rule, way);
     written_line(answer, out, line)
 }
 
-fn answer_writing(table: &mut [u32], src: &mut [u8], out: &mut [u8], line: &mut [u8]) -> Found
+fn answer_writing(
+    rule: TypeIdRule,
+    way: AddressWay,
+    table: &mut [u32],
+    src: &mut [u8],
+    out: &mut [u8],
+    line: &mut [u8],
+) -> Found
     requires { ⌜ Lent (now table) × (length (now src) ≡ 70000) × (length (now out) ≡ 70000) × (length (now line) ≡ 150000) ⌝ }
     ensures { λ r. ⌜ r .count ≤ 149999 ⌝ }
 {
@@ -274,7 +315,7 @@ fn answer_writing(table: &mut [u32], src: &mut [u8], out: &mut [u8], line: &mut 
         return none(taken.is_failure);
     }
     let n = taken.count;
-    counted(write_line(table, &src[..n], &mut out[..m], line))
+    counted(write_line(rule, way, table, &src[..n], &mut out[..m], line))
 }
 
 fn answer_kind(src: &mut [u8], line: &mut [u8]) -> Found
@@ -416,15 +457,106 @@ fn answer_address(line: &mut [u8]) -> Found
     counted(put_word(line, 0, b"no"))
 }
 
+// ---- the ops that name a rule, and 17 a way
+
+// A rule from outside; none if it is cut, or its octet numbers none.
+enum RuleTaken {
+    Rule(TypeIdRule),
+    None { is_failure: bool },
+}
+
+fn take_rule() -> RuleTaken {
+    let mut one = [0u8; 1];
+    let taken = take(&mut one);
+    if taken.is_none {
+        return RuleTaken::None {
+            is_failure: taken.is_failure,
+        };
+    }
+    match one[0] {
+        1 => RuleTaken::Rule(TypeIdRule::Multiple),
+        2 => RuleTaken::Rule(TypeIdRule::Gap),
+        _ => RuleTaken::None { is_failure: false },
+    }
+}
+
+// The octet of a way: there is one.
+fn take_way() -> Found {
+    let mut one = [0u8; 1];
+    let taken = take(&mut one);
+    if taken.is_none {
+        return none(taken.is_failure);
+    }
+    if one[0] != 1 {
+        return bad();
+    }
+    counted(1)
+}
+
+fn answer_writing_by(
+    rule: TypeIdRule,
+    table: &mut [u32],
+    src: &mut [u8],
+    out: &mut [u8],
+    line: &mut [u8],
+) -> Found
+    requires { ⌜ Lent (now table) × (length (now src) ≡ 70000) × (length (now out) ≡ 70000) × (length (now line) ≡ 150000) ⌝ }
+    ensures { λ r. ⌜ r .count ≤ 149999 ⌝ }
+{
+    let way = take_way();
+    if way.is_none {
+        return none(way.is_failure);
+    }
+    answer_writing(rule, AddressWay::Constants, table, src, out, line)
+}
+
+fn answer_under(
+    op: u8,
+    rule: TypeIdRule,
+    table: &mut [u32],
+    src: &mut [u8],
+    out: &mut [u8],
+    line: &mut [u8],
+) -> Found
+    requires { ⌜ Lent (now table) × (length (now src) ≡ 70000) × (length (now out) ≡ 70000) × (length (now line) ≡ 150000) ⌝ }
+    ensures { λ r. ⌜ r .count ≤ 149999 ⌝ }
+{
+    match op {
+        14 => answer_reading(false, true, rule, table, src, line),
+        15 => answer_reading(true, true, rule, table, src, line),
+        16 => answer_length(rule, table, src, line),
+        _ => answer_writing_by(rule, table, src, out, line),
+    }
+}
+
+fn answer_by(op: u8, table: &mut [u32], src: &mut [u8], out: &mut [u8], line: &mut [u8]) -> Found
+    requires { ⌜ Lent (now table) × (length (now src) ≡ 70000) × (length (now out) ≡ 70000) × (length (now line) ≡ 150000) ⌝ }
+    ensures { λ r. ⌜ r .count ≤ 149999 ⌝ }
+{
+    match take_rule() {
+        RuleTaken::None { is_failure } => none(is_failure),
+        RuleTaken::Rule(rule) => answer_under(op, rule, table, src, out, line),
+    }
+}
+
+// ---- all of them
+
 fn answer(op: u8, table: &mut [u32], src: &mut [u8], out: &mut [u8], line: &mut [u8]) -> Found
     requires { ⌜ Lent (now table) × (length (now src) ≡ 70000) × (length (now out) ≡ 70000) × (length (now line) ≡ 150000) ⌝ }
     ensures { λ r. ⌜ r .count ≤ 149999 ⌝ }
 {
     match op {
-        1 => answer_reading(false, table, src, line),
-        2 => answer_reading(true, table, src, line),
-        3 => answer_length(table, src, line),
-        4 => answer_writing(table, src, out, line),
+        1 => answer_reading(false, false, TypeIdRule::Multiple, table, src, line),
+        2 => answer_reading(true, false, TypeIdRule::Multiple, table, src, line),
+        3 => answer_length(TypeIdRule::Multiple, table, src, line),
+        4 => answer_writing(
+            TypeIdRule::Multiple,
+            AddressWay::Constants,
+            table,
+            src,
+            out,
+            line,
+        ),
         5 => answer_kind(src, line),
         6 => answer_tap(src, line),
         7 => answer_name(src, line),
@@ -434,6 +566,7 @@ fn answer(op: u8, table: &mut [u32], src: &mut [u8], out: &mut [u8], line: &mut 
         11 => answer_where(false, table, src, line),
         12 => answer_where(true, table, src, line),
         13 => answer_name_where(src, line),
+        14..=17 => answer_by(op, table, src, out, line),
         _ => bad(),
     }
 }

@@ -5,6 +5,7 @@ use mathlib.Core.List.{List, [], _∷_}
 use native.Mathlib.Nat.{min-eq-left}
 use native.Mathlib.Omega.{arith}
 use lib.ListN.{length, take, drop, length-drop}
+use Rattle.reference.specs.declared.TypeIdRule.{TypeIdRule}
 use Rattle.reference.specs.declared.Tap.{Tap}
 use Rattle.reference.specs.declared.NameComponent.{NameComponent}
 use Rattle.reference.specs.declared.LiteComponent.{LiteComponent}
@@ -13,10 +14,11 @@ use Rattle.reference.specs.declared.TaggedProfile.the-variants as Sort
 use Rattle.reference.specs.declared.Profile.{Profile as Entry}
 use Rattle.reference.specs.declared.View.{View}
 use Rattle.reference.specs.declared.Check.the-variants.{Pass}
+use Rattle.reference.specs.Layout.{gapLength}
 use Rattle.reference.specs.Used.{tapsIn, namesIn, extrasIn, owned, bodyView}
 use Rattle.reference.specs.Meaning.{sum}
 use Rattle.reference.specs.Writer.{tapSize, nameSize, extraSize, bodySize, ownSize, sizeOf, counted, countsCheck, viewCheck, viewsCheck, bodyViews}
-use Rattle.table.specs.Flat.{tablesFrom}
+use Rattle.table.specs.Flat.{viewFrom, tablesFrom}
 use Rattle.survey.specs.declared.Survey.{Survey}
 use Rattle.survey.specs.Seen.{holds, passing, Surveyed}
 use Rattle.survey.specs.ByTable.{fixedSize, entrySize, usedIn, octetsIn}
@@ -51,22 +53,24 @@ owned-parts (p ∷ l) ts ns es ht hn he =
     owned-parts l (drop a ts) (drop b ns) (drop c es) (omega (arith, length-drop a ts)) (omega (arith, length-drop b ns)) (omega (arith, length-drop c es)) in
     omega (arith, body-parts (p .body) ts ns es, rest, sum-split tapSize a ts, sum-split nameSize b ns, sum-split extraSize c es)
 
-pub sizes-by-table : (t : List ℕ) → countsCheck (tablesFrom t) ≡ Pass → octetsIn (usedIn t) ≡ sizeOf (usedIn t)
-unfolding sizeOf
-sizes-by-table t h =
-    let g = agreeing t h in
-    let u = usedIn t in
-    let o = owned-parts (u .profiles) (u .taps) (u .names) (u .extras)
-    (g .tapsSum ∙ sym (taps-listed t (g .taps) .size)) (g .namesSum ∙ sym (names-listed t (g .names) .size))
-    (g .extrasSum ∙ sym (extras-listed t (g .extras) .size)) in
-    omega (arith, o)
+module _ (rule : TypeIdRule) where
+  pub sizes-by-table : (t : List ℕ) → countsCheck (tablesFrom t) ≡ Pass → octetsIn (usedIn t) + gapLength rule (viewFrom t 0 .len) ≡ sizeOf rule (usedIn t)
+  unfolding sizeOf tablesFrom
+  sizes-by-table t h =
+      let g = agreeing t h in
+      let u = usedIn t in
+      let o = owned-parts (u .profiles) (u .taps) (u .names) (u .extras)
+      (g .tapsSum ∙ sym (taps-listed t (g .taps) .size)) (g .namesSum ∙ sym (names-listed t (g .names) .size))
+      (g .extrasSum ∙ sym (extras-listed t (g .extras) .size)) in
+      omega (arith, o)
 
 -- what a survey of the table over n octets says, where they are no more than 65535 and the counts agree
 pub ends-told : {n : ℕ} {t : List ℕ} {s : Survey} → Surveyed (min n 65535) t s → n ≤ 65535 → holds (s .ends) ≡ passing (viewsCheck n (usedIn t))
 ends-told {t = t} k h = k .ends ∙ ap (λ (m : ℕ). passing (viewsCheck m (usedIn t))) (min-eq-left h)
 
-pub octets-told : {m : ℕ} {t : List ℕ} {s : Survey} → Surveyed m t s → countsCheck (tablesFrom t) ≡ Pass → s .octets ≡ sizeOf (usedIn t)
-octets-told {t = t} k h = k .octets ∙ sizes-by-table t h
+module _ (rule : TypeIdRule) where
+  pub octets-told : {m : ℕ} {t : List ℕ} {s : Survey} → Surveyed m t s → countsCheck (tablesFrom t) ≡ Pass → {x : ℕ} → x ≡ s .octets + gapLength rule (viewFrom t 0 .len) → x ≡ sizeOf rule (usedIn t)
+  octets-told {t = t} k h e = e ∙ ap (λ (n : ℕ). n + gapLength rule (viewFrom t 0 .len)) (k .octets) ∙ sizes-by-table rule t h
 
 -- a profile's view is its key, its context or its data
 pub body-views : (n : ℕ) (b : TaggedProfile) {v : View} → v ≡ bodyView b → viewCheck n 40 v ≡ bodyViews n b

@@ -6,6 +6,7 @@ use mathlib.Core.List.{List}
 use native.Mathlib.Omega.{arith}
 use lib.Dec.{leb}
 use borrow.Author.Tests.{leb-false}
+use Rattle.reference.specs.declared.TypeIdRule.{TypeIdRule}
 use Rattle.reference.specs.declared.Refusal.{Refusal}
 use Rattle.reference.specs.declared.Tables.{Tables}
 use Rattle.reference.specs.declared.Check.{Check}
@@ -67,38 +68,39 @@ module _ (t : List ℕ) (few : profilesUsed t ≤ profileRegion .size) {a b d : 
   pub at-extras : taps-check ≡ Pass → names-check ≡ Pass → extras-check ≡ countsCheck (tablesFrom t)
   at-extras p q = sym (go taps-check _ p ∙ go names-check _ q) ∙ table-by-table
 
--- ---- 6, 8, 9, 10
+module _ (rule : TypeIdRule) where
+  -- ---- 6, 8, 9, 10
 
-module _ (t : Tables) (n : ℕ) where
-  pub stop-source : 65535 < n → measureCheck t n ≡ Refuse (refusal 6 0 n 65535)
-  unfolding measureCheck
-  stop-source h = stop (sourceCheck n) _ _ (lt-test n 65535 _ h)
-
-  module _ (source : n ≤ 65535) where
-    beyond-source : measureCheck t n ≡ both (countsCheck t) (both (viewsCheck n (usedOf t)) (imageCheck (sizeOf (usedOf t))))
+  module _ (t : Tables) (n : ℕ) where
+    pub stop-source : 65535 < n → measureCheck rule t n ≡ Refuse (refusal 6 0 n 65535)
     unfolding measureCheck
-    beyond-source = go (sourceCheck n) _ (le-test n 65535 _ source)
+    stop-source h = stop (sourceCheck n) _ _ (lt-test n 65535 _ h)
 
-    pub stop-counts : {r : Refusal} → countsCheck t ≡ Refuse r → measureCheck t n ≡ Refuse r
-    stop-counts e = beyond-source ∙ stop (countsCheck t) _ _ e
+    module _ (source : n ≤ 65535) where
+      beyond-source : measureCheck rule t n ≡ both (countsCheck t) (both (viewsCheck n (usedOf t)) (imageCheck (sizeOf rule (usedOf t))))
+      unfolding measureCheck
+      beyond-source = go (sourceCheck n) _ (le-test n 65535 _ source)
 
-    module _ (counts : countsCheck t ≡ Pass) where
-      beyond-counts : measureCheck t n ≡ both (viewsCheck n (usedOf t)) (imageCheck (sizeOf (usedOf t)))
-      beyond-counts = beyond-source ∙ go (countsCheck t) _ counts
+      pub stop-counts : {r : Refusal} → countsCheck t ≡ Refuse r → measureCheck rule t n ≡ Refuse r
+      stop-counts e = beyond-source ∙ stop (countsCheck t) _ _ e
 
-      pub stop-views : {r : Refusal} → viewsCheck n (usedOf t) ≡ Refuse r → measureCheck t n ≡ Refuse r
-      stop-views e = beyond-counts ∙ stop (viewsCheck n (usedOf t)) _ _ e
+      module _ (counts : countsCheck t ≡ Pass) where
+        beyond-counts : measureCheck rule t n ≡ both (viewsCheck n (usedOf t)) (imageCheck (sizeOf rule (usedOf t)))
+        beyond-counts = beyond-source ∙ go (countsCheck t) _ counts
 
-      pub views-fail : passing (viewsCheck n (usedOf t)) ≡ false → passing (measureCheck t n) ≡ false
-      views-fail e = ap passing beyond-counts ∙ stopped (viewsCheck n (usedOf t)) _ e
+        pub stop-views : {r : Refusal} → viewsCheck n (usedOf t) ≡ Refuse r → measureCheck rule t n ≡ Refuse r
+        stop-views e = beyond-counts ∙ stop (viewsCheck n (usedOf t)) _ _ e
 
-      pub at-image : viewsCheck n (usedOf t) ≡ Pass → measureCheck t n ≡ imageCheck (sizeOf (usedOf t))
-      at-image views = beyond-counts ∙ go (viewsCheck n (usedOf t)) _ views
+        pub views-fail : passing (viewsCheck n (usedOf t)) ≡ false → passing (measureCheck rule t n) ≡ false
+        views-fail e = ap passing beyond-counts ∙ stopped (viewsCheck n (usedOf t)) _ e
 
--- a table that measuring passes: the counts agree
-pub counts-passed : (t : Tables) (n : ℕ) → measureCheck t n ≡ Pass → countsCheck t ≡ Pass
-unfolding measureCheck
-counts-passed t n e = passes _ _ (passes (sourceCheck n) _ e .1) .0
+        pub at-image : viewsCheck n (usedOf t) ≡ Pass → measureCheck rule t n ≡ imageCheck (sizeOf rule (usedOf t))
+        at-image views = beyond-counts ∙ go (viewsCheck n (usedOf t)) _ views
+
+  -- a table that measuring passes: the counts agree
+  pub counts-passed : (t : Tables) (n : ℕ) → measureCheck rule t n ≡ Pass → countsCheck t ≡ Pass
+  unfolding measureCheck
+  counts-passed t n e = passes _ _ (passes (sourceCheck n) _ e .1) .0
 
 -- 10, by its test
 pub image-passing : (size : ℕ) → leb size 65535 ≡ passing (imageCheck size)

@@ -6,6 +6,7 @@ ghost use lib.ListN.{length, getD};
 ghost use Rattle.octets.specs.Octets.{part};
 ghost use mathlib.Core.Bool.{false};
 ghost use Rattle.reference.specs.declared.Check.the-variants.{Pass, Refuse};
+ghost use Rattle.reference.specs.Layout.{gapLength};
 ghost use Rattle.reference.specs.Checks.{both, each};
 ghost use Rattle.reference.specs.Meaning.{sum};
 ghost use Rattle.reference.specs.Tabled.{usedOf};
@@ -30,7 +31,9 @@ use reference::PROFILES;
 use reference::Refusal;
 use reference::TAPS;
 use reference::Tap;
+use reference::TypeIdRule;
 use reference::View;
+use reference::gap_length;
 use reference::outside;
 use reference::too_large;
 use reference::too_long;
@@ -193,10 +196,19 @@ fn check_views(t: &[u32], n: usize) -> Check
     then(type_id, then(profiles, then(taps, then(names, extras))))
 }
 
-// Whether measuring passes, by a survey of the table over a source of n octets.
-pub fn is_sound(s: Survey, t: &[u32], n: usize) -> bool
+// The octets of the image under the rule, whose gap no survey counts.
+pub fn image_size(s: Survey, t: &[u32], rule: TypeIdRule) -> usize
+    requires { ⌜ Lent (now t) × (s .octets ≤ 500 * 0x200000000) ⌝ }
+    ensures { λ r. ⌜ r ≡ s .octets + gapLength rule (viewFrom (now (t .entry)) 0 .len) ⌝ }
+{
+    let type_id = view_at(t, TYPE_ID);
+    s.octets + gap_length(rule, type_id.len as usize)
+}
+
+// Whether measuring passes under the rule, by a survey of the table over a source of n octets.
+pub fn is_sound(s: Survey, t: &[u32], n: usize, rule: TypeIdRule) -> bool
     requires { ⌜ Lent (now t) × Surveyed (min n 65535) (now t) s ⌝ }
-    ensures { λ r. ⌜ r ≡ passing (measureCheck (tablesFrom (now (t .entry))) n) ⌝ }
+    ensures { λ r. ⌜ r ≡ passing (measureCheck rule (tablesFrom (now (t .entry))) n) ⌝ }
 {
     if MOST < n {
         return false;
@@ -208,13 +220,13 @@ pub fn is_sound(s: Survey, t: &[u32], n: usize) -> bool
     if BOUND <= s.ends {
         return false;
     }
-    s.octets <= MOST
+    image_size(s, t, rule) <= MOST
 }
 
 // What measuring refuses with, where it does not pass: 6, 8, 9 or 10.
-pub fn refusal_of(s: Survey, t: &[u32], n: usize) -> Refusal
-    requires { ⌜ Lent (now t) × Surveyed (min n 65535) (now t) s × (passing (measureCheck (tablesFrom (now t)) n) ≡ false) ⌝ }
-    ensures { λ r. ⌜ measureCheck (tablesFrom (now (t .entry))) n ≡ Refuse r ⌝ }
+pub fn refusal_of(s: Survey, t: &[u32], n: usize, rule: TypeIdRule) -> Refusal
+    requires { ⌜ Lent (now t) × Surveyed (min n 65535) (now t) s × (passing (measureCheck rule (tablesFrom (now t)) n) ≡ false) ⌝ }
+    ensures { λ r. ⌜ measureCheck rule (tablesFrom (now (t .entry))) n ≡ Refuse r ⌝ }
 {
     if MOST < n {
         return too_large(6, n);
@@ -227,19 +239,19 @@ pub fn refusal_of(s: Survey, t: &[u32], n: usize) -> Refusal
     if let Check::Refuse(r) = views {
         return r;
     }
-    too_large(10, s.octets)
+    too_large(10, image_size(s, t, rule))
 }
 
 // The image's length over src; or 6, 8, 9 or 10.
-pub fn length_from(t: &[u32], src: &[u8]) -> Answer
+pub fn length_from(t: &[u32], src: &[u8], rule: TypeIdRule) -> Answer
     requires { ⌜ Lent (now t) ⌝ }
-    ensures { λ r. ⌜ r ≡ measured (tablesFrom (now (t .entry))) (now (src .entry)) ⌝ }
+    ensures { λ r. ⌜ r ≡ measured rule (tablesFrom (now (t .entry))) (now (src .entry)) ⌝ }
 {
     let s = survey_of(t, src.len());
-    if is_sound(s, t, src.len()) {
-        return Answer::Count(s.octets);
+    if is_sound(s, t, src.len(), rule) {
+        return Answer::Count(image_size(s, t, rule));
     }
-    Answer::Refused(refusal_of(s, t, src.len()))
+    Answer::Refused(refusal_of(s, t, src.len(), rule))
 }
 
 // What one survey says of a lent table over a source: it is sound, that is exact and nothing that measuring refuses, and its image so long; or what was seen.
@@ -248,15 +260,15 @@ pub enum Judged {
     Unsound(Survey),
 }
 
-pub fn judge(t: &[u32], n: usize) -> Judged
+pub fn judge(t: &[u32], n: usize, rule: TypeIdRule) -> Judged
     requires { ⌜ Lent (now t) ⌝ }
-    ensures { λ r. ⌜ Judges (now (t .entry)) n r ⌝ }
+    ensures { λ r. ⌜ Judges rule (now (t .entry)) n r ⌝ }
 {
     let s = survey_of(t, n);
     // Both marks at once; `is_sound` looks at the ends again, which costs nothing.
     if (s.fields | s.ends) < BOUND {
-        if is_sound(s, t, n) {
-            return Judged::Sound(s.octets);
+        if is_sound(s, t, n, rule) {
+            return Judged::Sound(image_size(s, t, rule));
         }
     }
     Judged::Unsound(s)

@@ -1,9 +1,10 @@
 -- The promises, over what the face's contracts say. `s` are the octets of the caller's slice, `t` the caller's tables, `d` the output before the call and
 -- `e` after it, `r` what the call answered: each theorem begins with the very clause of the call's contract. That a slice of u8 holds octets (`Octets`)
 -- and that tables keep to their types (`Typed`) is what the language gives a caller; nothing else is asked. The promises of the calls on a lent table stand
--- in `Lent`. Assumes nothing.
+-- in `Lent`. Those of reading and writing are instances, at rule 1 and with an address's constants, of what `Rules` proves over the rule and the way.
+-- Assumes nothing.
 use Prim.Native.Nat.{ℕ, _≤_}
-use mathlib.Core.Path.{_≡_, sym, ap, _∙_, subst}
+use mathlib.Core.Path.{_≡_, sym, _∙_, subst}
 use mathlib.Core.Bool.{Bool}
 use mathlib.Core.List.{List, [], _∷_, map}
 use mathlib.Core.Logic.{_↔_}
@@ -16,28 +17,22 @@ use Rattle.reference.specs.declared.Reading.{Reading}
 use Rattle.reference.specs.declared.Refusal.{Refusal}
 use Rattle.reference.specs.declared.Tables.{Tables}
 use Rattle.reference.specs.Meaning.{Reference, Address}
-use Rattle.reference.specs.Layout.{Leads}
-use Rattle.reference.specs.Reader.{readLeading, readWhole, readAddress, answered}
+use Rattle.reference.specs.declared.TypeIdRule.the-variants.{Multiple}
+use Rattle.reference.specs.declared.AddressWay.the-variants.{Constants}
+use Rattle.reference.specs.Reader.{readAddress}
 use Rattle.reference.specs.Steps.{seen, ok}
-use Rattle.reference.specs.Placed.{tablesOf}
+use Rattle.reference.specs.Today.{Leads, tablesOf, readLeading, readWhole, answered, imageOf, measured, ShowsFields, GivesBack, ReadsBack, Points, Alike}
 use Rattle.reference.specs.Tabled.{tabled, noTables, usedOf}
 use Rattle.reference.specs.Typed.{Typed, Unknown}
-use Rattle.reference.specs.Writer.{imageOf, measured, written, leaves}
 use Rattle.reference.specs.Checks.{Among}
-use Rattle.reference.specs.Where.{Points, Alike}
-use Rattle.reference.specs.Promises.{taking, ShowsFields, GivesBack, ReadsBack, PutInFront, LengthIsWritten, SameUsed}
+use Rattle.reference.specs.Promises.{taking, PutInFront, LengthIsWritten, SameUsed, RulesAgree}
 use Rattle.reference.specs.Worked as Table
-use Rattle.reference.proofs.Promised as promised
-use Rattle.reference.proofs.Written as writtenly
-use Rattle.reference.proofs.Measured as measuredly
 use Rattle.reference.proofs.Worked as worked-out
 use Rattle.reference.proofs.Addresses as addresses
-use Rattle.writing.specs.Writes.{Writes}
+use Rattle.writing.specs.Today.{Writes}
 use Rattle.reference.specs.declared.NameComponent.{NameComponent}
 use Rattle.reference.specs.Questions.{kindOf, tapNumbersOf, firstBiop, dvbAddress, DvbAddress, dvbOctets}
 use Rattle.reference.specs.Names.{readShortName, shortAt}
-use Rattle.reading.proofs.Determined as reading
-use Rattle.writing.proofs.Determined as writing
 use Rattle.reference.specs.declared.ObjectKind.{ObjectKind}
 use Rattle.reference.specs.declared.TapNumbers.{TapNumbers}
 use Rattle.reference.specs.declared.FirstBiop.{FirstBiop}
@@ -46,106 +41,88 @@ use Rattle.names.specs.declared.ShortNameRead.the-variants as Names
 use Rattle.names.specs.Told.{shortTold}
 use Rattle.names.specs.Writes as Short
 use Rattle.names.proofs.Promises as names
+use Rattle.reference.proofs.Rules as agreeing
+use Rattle.ior.proofs.Rules as rules
 
 module _ (s : List ℕ) (o : Octets s) where
   -- DEMAND 3. A slice of up to 65,535 octets is accepted by the leading reading with n octets and the tables t exactly when its first n octets are the
   -- layout of a well-formed meaning that fits the tables, and t are that meaning's: no publisher is refused for nothing, none accepted for nothing.
   pub accepts-exactly : (r : Reading) → r ≡ answered (readLeading s) → length s ≤ 65535 → (n : ℕ) (t : Tables)
       → (r ≡ taking n t) ↔ ((m : Reference) × (Leads s m n) × (t ≡ tabled (tablesOf m)))
-  accepts-exactly r c small n t =
-      let h = promised.accepts-exactly s o small n t in
-      (λ e. h .0 (sym c ∙ e), λ w. c ∙ h .1 w)
+  accepts-exactly = rules.accepts-exactly Multiple s o
 
   -- The same for the whole slice, with n its length.
   pub accepts-whole-exactly : (r : Reading) → r ≡ answered (readWhole s) → length s ≤ 65535 → (n : ℕ) (t : Tables)
       → (r ≡ taking n t) ↔ ((m : Reference) × (Leads s m n) × (n ≡ length s) × (t ≡ tabled (tablesOf m)))
-  accepts-whole-exactly r c small n t =
-      let h = promised.accepts-whole-exactly s o small n t in
-      (λ e. h .0 (sym c ∙ e), λ w. c ∙ h .1 w)
+  accepts-whole-exactly = rules.accepts-whole-exactly Multiple s o
 
   -- What the whole reading accepts, the leading reading accepts with the same answer and tables: what is promised of one holds of the other.
   pub whole-is-leading : (r : Reading) → r ≡ answered (readWhole s) → (n : ℕ) → r .answer ≡ Count n → (r ≡ answered (readLeading s)) × (n ≡ length s)
-  whole-is-leading r c n e = let (h, q) = promised.whole-is-leading s o n (sym (ap (λ (x : Reading). x .answer) c) ∙ e) in (c ∙ h, q)
+  whole-is-leading = rules.whole-is-leading Multiple s o
 
   -- Part and meaning are unique: an invented consumed count or a second reading of the same octets is shut out.
   pub one-part-one-meaning : (m m′ : Reference) (n n′ : ℕ) → Leads s m n → Leads s m′ n′ → (m ≡ m′) × (n ≡ n′)
-  one-part-one-meaning m m′ n n′ l l′ = promised.one-part-one-meaning s o m m′ n n′ l l′
+  one-part-one-meaning = rules.one-part-one-meaning Multiple s o
 
   -- The tables of an accepted reading: each view shows the very octets of its field, at the offset where the field stands; unused entries are zero; the sums
   -- equal the used counts.
   pub views-show-their-fields : (r : Reading) → r ≡ answered (readLeading s) → (n : ℕ) → r .answer ≡ Count n
       → (m : Reference) × (Leads s m n) × (ShowsFields s m (r .tables))
-  views-show-their-fields r c n e =
-      let (m, l, f) = promised.views-show-their-fields s o n (sym (ap (λ (x : Reading). x .answer) c) ∙ e) in
-      (m, l, subst (λ (x : Reading). ShowsFields s m (x .tables)) (sym c) f)
+  views-show-their-fields = rules.views-show-their-fields Multiple s o
 
   -- Writing the tables of an accepted reading over the same octets into any output with room answers the part's length and gives the part back: at every index
   -- but the seven constants of each address the octets are equal, and behind the part the output is as before (`GivesBack`).
   pub write-gives-back : (r : Reading) → r ≡ answered (readLeading s) → (n : ℕ) → r .answer ≡ Count n
       → (d : List ℕ) (w : Told) (e : List ℕ) → Writes (r .tables) s d w e → n ≤ length d → (m : Reference) × (Leads s m n) × (w ≡ Count n) × (GivesBack s m n d e)
-  write-gives-back r c n h d w e x room =
-      let q = ap (λ (y : Reading). y .tables) c in
-      let (m, l, a, g) = promised.write-gives-back s o n (sym (ap (λ (y : Reading). y .answer) c) ∙ h) d room in
-      (m, l, x .answers ∙ ap (λ (y : Tables). written y s d) q ∙ a, subst (λ (y : List ℕ). GivesBack s m n d y) (sym (x .leaves ∙ ap (λ (y : Tables). leaves y s d) q)) g)
+  write-gives-back = rules.write-gives-back Multiple Constants s o
 
 -- DEMAND 1, first half: a refused reading gives the empty tables.
 pub refused-reading-is-empty : (s : List ℕ) (r : Reading) → r ≡ answered (readLeading s) → (x : Refusal) → r .answer ≡ Refused x → r .tables ≡ noTables
-refused-reading-is-empty s r c x e =
-    ap (λ (y : Reading). y .tables) c ∙ promised.refused-reading-is-empty s x (sym (ap (λ (y : Reading). y .answer) c) ∙ e)
+refused-reading-is-empty = rules.refused-reading-is-empty Multiple
 
 pub refused-whole-is-empty : (s : List ℕ) (r : Reading) → r ≡ answered (readWhole s) → (x : Refusal) → r .answer ≡ Refused x → r .tables ≡ noTables
-refused-whole-is-empty s r c x e =
-    ap (λ (y : Reading). y .tables) c ∙ promised.refused-whole-is-empty s x (sym (ap (λ (y : Reading). y .answer) c) ∙ e)
+refused-whole-is-empty = rules.refused-whole-is-empty Multiple
 
 module _ (t : Tables) (s d : List ℕ) (r : Told) (e : List ℕ) (w : Writes t s d r e) where
   -- DEMAND 1, second half: a refused writing changes no octet.
   pub refused-writing-leaves-all : (x : Refusal) → r ≡ Refused x → e ≡ d
-  refused-writing-leaves-all x h = w .leaves ∙ measuredly.refused-writing-leaves-all t s d x (sym (w .answers) ∙ h)
+  refused-writing-leaves-all = rules.refused-writing-leaves-all Multiple Constants t s d r e w
 
   -- An accepted one puts the image at the front, as long as it answers, and leaves the octets behind it.
   pub accepted-writing-puts : (n : ℕ) → r ≡ Count n → PutInFront (imageOf s t) d n e
-  accepted-writing-puts n h = subst (PutInFront (imageOf s t) d n) (sym (w .leaves)) (measuredly.accepted-writing-puts t s d n (sym (w .answers) ∙ h))
+  accepted-writing-puts = rules.accepted-writing-puts Multiple Constants t s d r e w
 
   -- DEMAND 3, the other way: tables that the writer accepts, with no opaque profile under a known tag, are read back from the output itself with equal contents.
   pub written-reads-back : Octets s → Octets d → length d ≤ 65535 → Typed t → Each Unknown (usedOf t .profiles) → (n : ℕ) → r ≡ Count n
       → (q : Reading) → q ≡ answered (readLeading e) → ReadsBack t s n e q
-  written-reads-back o od small y u n h q c =
-      subst (ReadsBack t s n e) (sym c)
-      (subst (λ (x : List ℕ). ReadsBack t s n x (answered (readLeading x))) (sym (w .leaves)) (writtenly.output-reads-back t s d o od small y u n (sym (w .answers) ∙ h)))
+  written-reads-back = rules.written-reads-back Multiple Constants t s d r e w
 
   -- The n octets that were written, read as a whole slice, say the same, whatever the output's length.
   pub image-reads-back : Octets s → Typed t → Each Unknown (usedOf t .profiles) → (n : ℕ) → r ≡ Count n → (q : Reading) → q ≡ answered (readWhole (take n e)) → ReadsBack t s n (take n e) q
-  image-reads-back o y u n h q c =
-      subst (ReadsBack t s n (take n e)) (sym c)
-      (subst (λ (x : List ℕ). ReadsBack t s n x (answered (readWhole x))) (sym (accepted-writing-puts n h .front))
-      (writtenly.written-reads-whole t s d o y u n (sym (w .answers) ∙ h)))
+  image-reads-back = rules.image-reads-back Multiple Constants t s d r e w
 
   -- The octets of an accepted image are octets.
   pub image-octets : Octets s → Typed t → (n : ℕ) → r ≡ Count n → Octets (imageOf s t)
-  image-octets o y n h = writtenly.image-octets t s d o y n (sym (w .answers) ∙ h)
+  image-octets = rules.image-octets Multiple Constants t s d r e w
 
   -- The measured length q is the image's and the length written, and measuring is refused with 6, 8, 9 or 10 exactly as writing is.
   pub length-is-written : (q : Told) → q ≡ measured t s → LengthIsWritten (6 ∷ 8 ∷ 9 ∷ 10 ∷ []) (imageOf s t) q r
-  length-is-written q h =
-      subst (λ (x : Told). LengthIsWritten (6 ∷ 8 ∷ 9 ∷ 10 ∷ []) (imageOf s t) x r) (sym h)
-      (subst (LengthIsWritten (6 ∷ 8 ∷ 9 ∷ 10 ∷ []) (imageOf s t) (measured t s)) (sym (w .answers)) (measuredly.length-is-written t s d))
+  length-is-written = rules.length-is-written Multiple Constants t s d r e w
 
 -- Only used entries are looked at: tables that agree in used counts and used entries are measured and written alike.
 pub only-used-matter : (t t′ : Tables) → SameUsed t t′ → (s d : List ℕ) (r r′ : Told) (e e′ : List ℕ) → Writes t s d r e → Writes t′ s d r′ e′
     → (measured t s ≡ measured t′ s) × (r ≡ r′) × (e ≡ e′)
-only-used-matter t t′ h s d r r′ e e′ w w′ =
-    let x = measuredly.only-used-matter t t′ h s d in
-    (x .measures, w .answers ∙ x .answers ∙ sym (w′ .answers), w .leaves ∙ x .leave ∙ sym (w′ .leaves))
+only-used-matter = rules.only-used-matter Multiple Constants
 
 -- ---- where a reading broke (document 02, No. 3)
 
 -- The third figure of a refused reading is an octet of the slice, or its end. Where a value is wrong (3, 4), the field that the place names stands there, and
 -- what it holds is not what it must hold. 6 and 7 have 0.
 pub offset-inside : (s : List ℕ) (r : Reading) → r ≡ answered (readLeading s) → (x : Refusal) → r .answer ≡ Refused x → Points s x
-offset-inside s r c x h = promised.offset-inside s x (sym (ap (λ (y : Reading). y .answer) c) ∙ h)
+offset-inside = rules.offset-inside Multiple
 
 pub whole-offset-inside : (s : List ℕ) (r : Reading) → r ≡ answered (readWhole s) → (x : Refusal) → r .answer ≡ Refused x → Points s x
-whole-offset-inside s r c x h = promised.whole-offset-inside s x (sym (ap (λ (y : Reading). y .answer) c) ∙ h)
+whole-offset-inside = rules.whole-offset-inside Multiple
 
 pub name-offset-inside : (s : List ℕ) (r : ShortNameRead) → shortTold r ≡ seen shortAt (readShortName s) → (x : Refusal) → r ≡ Names.Not x → Points s x
 name-offset-inside s r c x h = names.offset-inside s r c x h
@@ -154,11 +131,18 @@ name-offset-inside s r c x h = names.offset-inside s r c x h
 -- with the very same refusal.
 pub blamed : (s : List ℕ) (r : Reading) → r ≡ answered (readLeading s) → (x : Refusal) → r .answer ≡ Refused x → Among (x .number) (3 ∷ 4 ∷ [])
     → (s′ : List ℕ) → Alike s s′ x → (r′ : Reading) → r′ ≡ answered (readLeading s′) → r′ .answer ≡ Refused x
-blamed s r c x h a s′ l r′ c′ = ap (λ (y : Reading). y .answer) c′ ∙ promised.blamed s s′ x (sym (ap (λ (y : Reading). y .answer) c) ∙ h) a l
+blamed = rules.blamed Multiple
 
 pub whole-blamed : (s : List ℕ) (r : Reading) → r ≡ answered (readWhole s) → (x : Refusal) → r .answer ≡ Refused x → Among (x .number) (3 ∷ 4 ∷ [])
     → (s′ : List ℕ) → Alike s s′ x → (r′ : Reading) → r′ ≡ answered (readWhole s′) → r′ .answer ≡ Refused x
-whole-blamed s r c x h a s′ l r′ c′ = ap (λ (y : Reading). y .answer) c′ ∙ promised.whole-blamed s s′ x (sym (ap (λ (y : Reading). y .answer) c) ∙ h) a l
+whole-blamed = rules.whole-blamed Multiple
+
+-- ---- the rules for type ids (document 02, No. 11)
+
+-- Where the type id's length is a multiple of 4, the two rules give equal answers: in reading, of a slice whose first four octets are such a length, with equal
+-- tables; in measuring and writing, of tables with such a type id, and the output is left the same.
+pub rules-agree : RulesAgree
+rules-agree = agreeing.rules-agree
 
 -- P1 to P11 of document 01: each question of the table is answered as 01 says.
 pub worked : map (λ q. Table.reply (q .0)) Table.cases ≡ map (λ q. q .1) Table.cases
@@ -185,16 +169,16 @@ dvb-only a b o p m n h r r′ c c′ = c ∙ addresses.dvb-only a b o p m n h �
 -- shown it, its theorem is cited.
 
 pub determined-read-leading : (s : List ℕ) (r r′ : Reading) → r ≡ answered (readLeading s) → r′ ≡ answered (readLeading s) → r ≡ r′
-determined-read-leading s r r′ p q = reading.leading-determined s p q
+determined-read-leading = rules.determined-read-leading Multiple
 
 pub determined-read-whole : (s : List ℕ) (r r′ : Reading) → r ≡ answered (readWhole s) → r′ ≡ answered (readWhole s) → r ≡ r′
-determined-read-whole s r r′ p q = reading.whole-determined s p q
+determined-read-whole = rules.determined-read-whole Multiple
 
 pub determined-image-length : (t : Tables) (s : List ℕ) (r r′ : Told) → r ≡ measured t s → r′ ≡ measured t s → r ≡ r′
-determined-image-length t s r r′ p q = writing.length-determined t s p q
+determined-image-length = rules.determined-image-length Multiple
 
 pub determined-write : (t : Tables) (s d : List ℕ) (r r′ : Told) (e e′ : List ℕ) → Writes t s d r e → Writes t s d r′ e′ → (r ≡ r′) × (e ≡ e′)
-determined-write t s d r r′ e e′ p q = writing.write-determined p q
+determined-write = rules.determined-write Multiple Constants
 
 pub determined-object-kind : (l : List ℕ) (r r′ : ObjectKind) → r ≡ kindOf l → r′ ≡ kindOf l → r ≡ r′
 determined-object-kind l r r′ p q = p ∙ sym q

@@ -1,9 +1,10 @@
 -- The promises of the calls that read into a table which the caller lends, and that measure and write from it, over what their contracts say. `s` are the
 -- octets of the caller's slice, `t` the table before the call, whatever it holds, and `e` after it, `r` what the call answered; `d` is an output before a
 -- writing call, `f` after it, `w` its answer. That a slice of u8 holds octets (`Octets`), that the table has 490 numbers and that they are u32 (`Words`)
--- is what the language gives a caller; nothing else is asked. Assumes nothing.
+-- is what the language gives a caller; nothing else is asked. Each is an instance, at rule 1 and with an address's constants, of what `LentRules` proves over
+-- the rule and the way. Assumes nothing.
 use Prim.Native.Nat.{ℕ, _≤_}
-use mathlib.Core.Path.{_≡_, refl, sym, _∙_, subst}
+use mathlib.Core.Path.{_≡_}
 use mathlib.Core.List.{List, [], _∷_}
 use mathlib.Core.Logic.{_↔_}
 use lib.ListN.{length, take, replicate}
@@ -12,36 +13,27 @@ use Rattle.reference.specs.declared.Answer.{Answer as Told}
 use Rattle.reference.specs.declared.Answer.the-variants.{Count, Refused}
 use Rattle.reference.specs.declared.Refusal.{Refusal}
 use Rattle.reference.specs.Meaning.{Reference, Room}
-use Rattle.reference.specs.Layout.{WellFormed, Leads}
-use Rattle.reference.specs.Reader.{readLeading, readWhole}
+use Rattle.reference.specs.declared.TypeIdRule.the-variants.{Multiple}
+use Rattle.reference.specs.declared.AddressWay.the-variants.{Constants}
+use Rattle.reference.specs.Layout.{WellFormed}
 use Rattle.reference.specs.Used.{Used}
-use Rattle.reference.specs.Placed.{tablesOf}
+use Rattle.reference.specs.Today.{Leads, tablesOf, readLeading, readWhole, imageOf, GivesBack, ReadsBack, Points, Alike}
 use Rattle.reference.specs.Tabled.{noTables, usedOf}
 use Rattle.reference.specs.Typed.{Unknown}
-use Rattle.reference.specs.Writer.{imageOf}
 use Rattle.reference.specs.Checks.{Among}
-use Rattle.reference.specs.Where.{Points, Alike}
-use Rattle.reference.specs.Promises.{GivesBack, ReadsBack, PutInFront, LengthIsWritten}
-use Rattle.reference.proofs.Accept.{exactly, whole}
-use Rattle.reference.proofs.Promised as promised
-use Rattle.reference.proofs.Written.{output-octets}
+use Rattle.reference.specs.Promises.{PutInFront, LengthIsWritten}
 use Rattle.table.specs.Region.{Words}
 use Rattle.table.specs.Flat.{tablesFrom, tableSize, Lent}
 use Rattle.table.specs.Filed.{referenceFiled, SameEntries}
-use Rattle.table.proofs.Typed.{told-typed}
 use Rattle.survey.specs.Uncut.{Uncut}
-use Rattle.reading.specs.Into.{ReadInto}
-use Rattle.reading.specs.Lent.{ShowsInto}
-use Rattle.reading.proofs.Valued.{leading-good, whole-good}
-use Rattle.reading.proofs.Lent as reading
-use Rattle.reading.proofs.Determined as determined
-use Rattle.ior.specs.Lent.{notExact, measuredFrom, WritesFrom}
-use Rattle.ior.proofs.Guarded as guarded
-use Rattle.ior.proofs.Demands as face
+use Rattle.reading.specs.Today.{ReadInto, ShowsInto}
+use Rattle.ior.specs.Lent.{notExact}
+use Rattle.ior.specs.Today.{measuredFrom, WritesFrom}
+use Rattle.ior.proofs.LentRules as rules
 
 -- What is told of the table that an accepted reading leaves has exactly the reference's used entries, whatever the table held before.
-pub lent-shows : (t : List ℕ) → Lent t → (m : Reference) → WellFormed m → Room m → usedOf (tablesFrom (referenceFiled t m)) ≡ tablesOf m
-lent-shows t l m w room = reading.lent-shows t l m w room
+pub lent-shows : (t : List ℕ) → Lent t → (m : Reference) → WellFormed Multiple m → Room m → usedOf (tablesFrom (referenceFiled Multiple t m)) ≡ tablesOf m
+lent-shows = rules.lent-shows Multiple
 
 -- ---- read_leading_into
 
@@ -50,45 +42,37 @@ module _ (s : List ℕ) (o : Octets s) (t e : List ℕ) (lent : Lent t) (r : Tol
   -- well-formed meaning that fits the tables, and u are that meaning's.
   pub lent-accepts-exactly : length s ≤ 65535 → (n : ℕ) (u : Used)
       → ((r ≡ Count n) × (usedOf (tablesFrom e) ≡ u)) ↔ ((m : Reference) × (Leads s m n) × (u ≡ tablesOf m))
-  lent-accepts-exactly small n u =
-      let x = reading.into-exactly (readLeading s) t e r c lent (leading-good s o) n u in (
-        λ h. let (m, q, p) = x .0 h in (m, exactly s o small m n .0 q, p),
-        λ h. x .1 (h .0, exactly s o small (h .0) n .1 (h .1), h .2),
-      )
+  lent-accepts-exactly = rules.lent-accepts-exactly Multiple s o t e lent r c
 
   -- The table of an accepted reading: each view shows the very octets of its field, at the offset where the field stands; the sums equal the used counts;
   -- the numbers of unused entries are as before.
   pub lent-views-show-their-fields : (n : ℕ) → r ≡ Count n → (m : Reference) × (Leads s m n) × (ShowsInto s m t e)
-  lent-views-show-their-fields n h = let k = reading.leading-taken s o t e lent r n h c in (k .meaning, k .leads, k .shows)
+  lent-views-show-their-fields = rules.lent-views-show-their-fields Multiple s o t e lent r c
 
   -- DEMAND 1, first half: a refused reading leaves zeros, which tell the empty tables.
   pub lent-refused-reading-is-empty : (x : Refusal) → r ≡ Refused x → (e ≡ replicate tableSize 0) × (tablesFrom e ≡ noTables)
-  lent-refused-reading-is-empty x h = reading.into-refused (readLeading s) t e r c x h
+  lent-refused-reading-is-empty = rules.lent-refused-reading-is-empty Multiple s o t e lent r c
 
   -- Where it broke: the third figure points into the slice, a wrong value stands where it points, and nothing behind that is to blame.
   pub lent-offset-inside : (x : Refusal) → r ≡ Refused x → Points s x
-  lent-offset-inside x h = promised.offset-inside s x (sym (c .answers) ∙ h)
+  lent-offset-inside = rules.lent-offset-inside Multiple s o t e lent r c
 
   pub lent-blamed : (x : Refusal) → r ≡ Refused x → Among (x .number) (3 ∷ 4 ∷ [])
       → (s′ : List ℕ) → Alike s s′ x → (t′ e′ : List ℕ) (r′ : Told) → ReadInto (readLeading s′) t′ e′ r′ → r′ ≡ Refused x
-  lent-blamed x h a s′ l t′ e′ r′ c′ = c′ .answers ∙ promised.blamed s s′ x (sym (c .answers) ∙ h) a l
+  lent-blamed = rules.lent-blamed Multiple s o t e lent r c
 
   -- No number of the table that an accepted reading left is cut, and measuring it over the same octets tells the part's length.
   pub lent-read-is-uncut : (n : ℕ) → r ≡ Count n → Uncut e
-  lent-read-is-uncut n h = guarded.taken-uncut s t e n lent (reading.leading-taken s o t e lent r n h c)
+  lent-read-is-uncut = rules.lent-read-is-uncut Multiple s o t e lent r c
 
   pub lent-length-is-read : (n : ℕ) → r ≡ Count n → (q : Told) → q ≡ measuredFrom e s → q ≡ Count n
-  lent-length-is-read n h q x = x ∙ guarded.taken-measured s t e n lent (reading.leading-taken s o t e lent r n h c)
+  lent-length-is-read = rules.lent-length-is-read Multiple s o t e lent r c
 
   -- Writing from the table that an accepted reading left, over the same octets, into any output with room, answers the part's length and gives the part
   -- back: at every index but the seven constants of each address the octets are equal, and behind the part the output is as before.
   pub lent-write-gives-back : (n : ℕ) → r ≡ Count n → (d : List ℕ) (w : Told) (f : List ℕ) → WritesFrom e s d w f → n ≤ length d
       → (m : Reference) × (Leads s m n) × (w ≡ Count n) × (GivesBack s m n d f)
-  lent-write-gives-back n h d w f x room =
-      let k = reading.leading-taken s o t e lent r n h c in
-      let (a, g) = k .back d room in
-      let y = guarded.exact-writes e s d w f x (guarded.taken-exact s t e n lent k) in
-      (k .meaning, k .leads, y .answers ∙ a, subst (GivesBack s (k .meaning) n d) (sym (y .leaves)) g)
+  lent-write-gives-back = rules.lent-write-gives-back Multiple s o t e lent r c Constants
 
 -- ---- read_whole_into
 
@@ -96,80 +80,67 @@ module _ (s : List ℕ) (o : Octets s) (t e : List ℕ) (lent : Lent t) (r : Tol
   -- The same of a whole slice, with n its length.
   pub lent-accepts-whole-exactly : length s ≤ 65535 → (n : ℕ) (u : Used)
       → ((r ≡ Count n) × (usedOf (tablesFrom e) ≡ u)) ↔ ((m : Reference) × (Leads s m n) × (n ≡ length s) × (u ≡ tablesOf m))
-  lent-accepts-whole-exactly small n u =
-      let x = reading.into-exactly (readWhole s) t e r c lent (whole-good s o) n u in (
-        λ h. let (m, q, p) = x .0 h in let w = whole s o small m n .0 q in (m, w .0, w .1, p),
-        λ h. x .1 (h .0, whole s o small (h .0) n .1 (h .1, h .2), h .3),
-      )
+  lent-accepts-whole-exactly = rules.lent-accepts-whole-exactly Multiple s o t e lent r c
 
   -- What it accepts, the leading reading accepts with the same answer and table: what is promised of one holds of the other.
   pub lent-whole-is-leading : (n : ℕ) → r ≡ Count n → (ReadInto (readLeading s) t e r) × (n ≡ length s)
-  lent-whole-is-leading n h = reading.whole-into s o t e r n h c
+  lent-whole-is-leading = rules.lent-whole-is-leading Multiple s o t e lent r c
 
   pub lent-refused-whole-is-empty : (x : Refusal) → r ≡ Refused x → (e ≡ replicate tableSize 0) × (tablesFrom e ≡ noTables)
-  lent-refused-whole-is-empty x h = reading.into-refused (readWhole s) t e r c x h
+  lent-refused-whole-is-empty = rules.lent-refused-whole-is-empty Multiple s o t e lent r c
 
   pub lent-whole-offset-inside : (x : Refusal) → r ≡ Refused x → Points s x
-  lent-whole-offset-inside x h = promised.whole-offset-inside s x (sym (c .answers) ∙ h)
+  lent-whole-offset-inside = rules.lent-whole-offset-inside Multiple s o t e lent r c
 
   pub lent-whole-blamed : (x : Refusal) → r ≡ Refused x → Among (x .number) (3 ∷ 4 ∷ [])
       → (s′ : List ℕ) → Alike s s′ x → (t′ e′ : List ℕ) (r′ : Told) → ReadInto (readWhole s′) t′ e′ r′ → r′ ≡ Refused x
-  lent-whole-blamed x h a s′ l t′ e′ r′ c′ = c′ .answers ∙ promised.whole-blamed s s′ x (sym (c .answers) ∙ h) a l
+  lent-whole-blamed = rules.lent-whole-blamed Multiple s o t e lent r c
 
 -- ---- write_from and length_from: t is any table of u32, read or made by the caller
 
 module _ (t s d : List ℕ) (w : Told) (f : List ℕ) (c : WritesFrom t s d w f) where
   -- DEMAND 1, second half: a refused writing changes no octet.
   pub lent-refused-writing-leaves-all : (x : Refusal) → w ≡ Refused x → f ≡ d
-  lent-refused-writing-leaves-all x h = guarded.refused-leaves t s d w f c x h
+  lent-refused-writing-leaves-all = rules.lent-refused-writing-leaves-all Multiple Constants t s d w f c
 
   -- No number is cut: a table is refused with 255 exactly if some used entry would not be told as it stands.
   pub lent-cuts-no-number : Lent t → (w ≡ notExact) ↔ (Uncut t → ⊥)
-  lent-cuts-no-number l = guarded.writing-cuts-nothing t s d w f c l
+  lent-cuts-no-number = rules.lent-cuts-no-number Multiple Constants t s d w f c
 
   -- An accepted one puts the image at the front, as long as it answers, and leaves the octets behind it.
   pub lent-accepted-writing-puts : (n : ℕ) → w ≡ Count n → PutInFront (imageOf s (tablesFrom t)) d n f
-  lent-accepted-writing-puts n h = face.accepted-writing-puts (tablesFrom t) s d w f (guarded.accepted-writes t s d w f c n h) n h
+  lent-accepted-writing-puts = rules.lent-accepted-writing-puts Multiple Constants t s d w f c
 
   -- DEMAND 3, the other way: what the writer accepts, with no opaque profile under a known tag, is read back from the output itself, into any lent
   -- table, with equal contents.
   pub lent-written-reads-back : Octets s → Octets d → length d ≤ 65535 → Words t → Each Unknown (usedOf (tablesFrom t) .profiles) → (n : ℕ) → w ≡ Count n
       → (t′ e′ : List ℕ) (r′ : Told) → Lent t′ → ReadInto (readLeading f) t′ e′ r′ → ReadsBack (tablesFrom t) s n f (record { answer = r′; tables = tablesFrom e′ })
-  lent-written-reads-back o od small y u n h t′ e′ r′ l c′ =
-      let typed = told-typed t y in
-      let x = guarded.accepted-writes t s d w f c n h in
-      let of : Octets f = subst Octets (sym (x .leaves)) (output-octets (tablesFrom t) s d o od typed n (sym (x .answers) ∙ h)) in
-      reading.lent-read-back (readLeading f) (leading-good f of) (tablesFrom t) s n f (face.written-reads-back (tablesFrom t) s d w f x o od small typed u n h _ refl) t′ e′ r′ l c′
+  lent-written-reads-back = rules.lent-written-reads-back Multiple Constants t s d w f c
 
   -- The n octets that were written, read as a whole slice: the same, whatever the output's length.
   pub lent-image-reads-back : Octets s → Words t → Each Unknown (usedOf (tablesFrom t) .profiles) → (n : ℕ) → w ≡ Count n
       → (t′ e′ : List ℕ) (r′ : Told) → Lent t′ → ReadInto (readWhole (take n f)) t′ e′ r′
       → ReadsBack (tablesFrom t) s n (take n f) (record { answer = r′; tables = tablesFrom e′ })
-  lent-image-reads-back o y u n h t′ e′ r′ l c′ =
-      let typed = told-typed t y in
-      let x = guarded.accepted-writes t s d w f c n h in
-      let ox : Octets (take n f) = subst Octets (sym (lent-accepted-writing-puts n h .front)) (face.image-octets (tablesFrom t) s d w f x o typed n h) in
-      reading.lent-read-back (readWhole (take n f)) (whole-good (take n f) ox) (tablesFrom t) s n (take n f)
-      (face.image-reads-back (tablesFrom t) s d w f x o typed u n h _ refl) t′ e′ r′ l c′
+  lent-image-reads-back = rules.lent-image-reads-back Multiple Constants t s d w f c
 
   -- The length q that length_from tells is the image's and the length written, and it is refused with 255, 6, 8, 9 or 10 exactly as write_from is.
   pub lent-length-is-written : (q : Told) → q ≡ measuredFrom t s → LengthIsWritten (255 ∷ 6 ∷ 8 ∷ 9 ∷ 10 ∷ []) (imageOf s (tablesFrom t)) q w
-  lent-length-is-written q h = guarded.length-is-written t s d w f c q h
+  lent-length-is-written = rules.lent-length-is-written Multiple Constants t s d w f c
 
   -- Only used entries are looked at: tables with the same front, and the same numbers in their used entries, are measured and written alike.
   pub lent-only-used-matter : (t′ : List ℕ) → SameEntries t t′ → (w′ : Told) (f′ : List ℕ) → WritesFrom t′ s d w′ f′ → (measuredFrom t s ≡ measuredFrom t′ s) × (w ≡ w′) × (f ≡ f′)
-  lent-only-used-matter t′ h w′ f′ c′ = guarded.only-used-matter t t′ h s d w w′ f f′ c c′
+  lent-only-used-matter = rules.lent-only-used-matter Multiple Constants t s d w f c
 
 -- ---- each contract determines the answer, and the table or the output too
 
 pub lent-determined-read-leading : (s t e e′ : List ℕ) (r r′ : Told) → ReadInto (readLeading s) t e r → ReadInto (readLeading s) t e′ r′ → (r ≡ r′) × (e ≡ e′)
-lent-determined-read-leading s t e e′ r r′ p q = determined.leading-into-determined s t p q
+lent-determined-read-leading = rules.lent-determined-read-leading Multiple
 
 pub lent-determined-read-whole : (s t e e′ : List ℕ) (r r′ : Told) → ReadInto (readWhole s) t e r → ReadInto (readWhole s) t e′ r′ → (r ≡ r′) × (e ≡ e′)
-lent-determined-read-whole s t e e′ r r′ p q = determined.whole-into-determined s t p q
+lent-determined-read-whole = rules.lent-determined-read-whole Multiple
 
 pub lent-determined-image-length : (t s : List ℕ) (r r′ : Told) → r ≡ measuredFrom t s → r′ ≡ measuredFrom t s → r ≡ r′
-lent-determined-image-length t s r r′ p q = p ∙ sym q
+lent-determined-image-length = rules.lent-determined-image-length Multiple
 
 pub lent-determined-write : (t s d : List ℕ) (r r′ : Told) (e e′ : List ℕ) → WritesFrom t s d r e → WritesFrom t s d r′ e′ → (r ≡ r′) × (e ≡ e′)
-lent-determined-write t s d r r′ e e′ p q = (p .answers ∙ sym (q .answers), p .leaves ∙ sym (q .leaves))
+lent-determined-write = rules.lent-determined-write Multiple Constants

@@ -1,3 +1,5 @@
-pub mod Demands
 pub mod Guarded
+pub mod Rules
+pub mod LentRules
+pub mod Demands
 pub mod Lent

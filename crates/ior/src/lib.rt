@@ -4,19 +4,24 @@
 // table, in proofs/Lent.
 ghost use mathlib.Core.Path.{_≡_};
 ghost use Rattle.reference.specs.Steps.{seen};
-ghost use Rattle.reference.specs.Reader.{readLeading, readWhole, answered};
-ghost use Rattle.reference.specs.Writer.{measured};
+ghost use Rattle.reference.specs.Today.{readLeading, readWhole, answered, measured};
+ghost use Rattle.reference.specs.Reader as Reader;
+ghost use Rattle.reference.specs.Writer as Writer;
 ghost use Rattle.reference.specs.Questions.{kindOf, tapNumbersOf, firstBiop, dvbAddress};
 ghost use Rattle.reference.specs.Names.{readShortName, shortAt};
-ghost use Rattle.reading.specs.Into.{ReadInto};
-ghost use Rattle.writing.specs.Writes.{Writes};
+ghost use Rattle.reading.specs.Into as Into;
+ghost use Rattle.reading.specs.Today.{ReadInto};
+ghost use Rattle.writing.specs.Writes as By;
+ghost use Rattle.writing.specs.Today.{Writes};
 ghost use Rattle.names.specs.Told.{shortTold};
 ghost use Rattle.names.specs.Writes as Short;
-ghost use Rattle.ior.specs.Lent.{measuredFrom, WritesFrom};
+ghost use Rattle.ior.specs.Lent as Lent;
+ghost use Rattle.ior.specs.Today.{measuredFrom, WritesFrom};
 use faults::Judged;
 use faults::judge;
 use faults::refusal_of;
 use names::ShortNameRead;
+use reference::AddressWay;
 use reference::Answer;
 use reference::FirstBiop;
 use reference::NameComponent;
@@ -24,6 +29,7 @@ use reference::ObjectKind;
 use reference::Reading;
 use reference::Tables;
 use reference::TapNumbers;
+use reference::TypeIdRule;
 use reference::wrong;
 use survey::BOUND;
 use table::SIZE;
@@ -93,27 +99,85 @@ pub fn write(t: Tables, src: &[u8], out: &mut [u8]) -> Answer
 pub fn length_from(table: &FlatTable, src: &[u8]) -> Answer
     ensures { λ r. ⌜ r ≡ measuredFrom (now (table .entry)) (now (src .entry)) ⌝ }
 {
-    match judge(table, src.len()) {
-        Judged::Sound(total) => Answer::Count(total),
-        Judged::Unsound(found) => {
-            if BOUND <= found.fields {
-                return Answer::Refused(wrong(NOT_EXACT, 0));
-            }
-            Answer::Refused(refusal_of(found, table, src.len()))
-        }
-    }
+    length_from_by(table, src, TypeIdRule::Multiple)
 }
 
 pub fn write_from(table: &FlatTable, src: &[u8], out: &mut [u8]) -> Answer
     ensures { λ r. ⌜ WritesFrom (now (table .entry)) (now (src .entry)) (now (out .entry)) r (now (out .exit)) ⌝ }
 {
-    match judge(table, src.len()) {
-        Judged::Sound(total) => write_measured(table, src, out, total),
+    write_from_by(table, src, out, TypeIdRule::Multiple, AddressWay::Constants)
+}
+
+// ---- the same by a rule for type ids (document 02, No. 11), and in a way of writing an address
+
+// Each call above is the one here at rule 1 and in the way with constants. Under rule 2 a type id may have any length, and octets FF fill up behind it to the
+// next multiple of 4: a reading refuses a gap that is cut with 1, place 47, and one with another octet with 3, place 46; 4 with place 33 is not given.
+pub fn read_leading_by(s: &[u8], rule: TypeIdRule) -> Reading
+    ensures { λ r. ⌜ r ≡ Reader.answered rule (Reader.readLeading rule (now (s .entry))) ⌝ }
+{
+    reading::read_leading_by(s, rule)
+}
+
+pub fn read_whole_by(s: &[u8], rule: TypeIdRule) -> Reading
+    ensures { λ r. ⌜ r ≡ Reader.answered rule (Reader.readWhole rule (now (s .entry))) ⌝ }
+{
+    reading::read_whole_by(s, rule)
+}
+
+pub fn read_leading_into_by(s: &[u8], table: &mut FlatTable, rule: TypeIdRule) -> Answer
+    ensures { λ r. ⌜ Into.ReadInto rule (Reader.readLeading rule (now (s .entry))) (now (table .entry)) (now (table .exit)) r ⌝ }
+{
+    reading::read_leading_into_by(s, table, rule)
+}
+
+pub fn read_whole_into_by(s: &[u8], table: &mut FlatTable, rule: TypeIdRule) -> Answer
+    ensures { λ r. ⌜ Into.ReadInto rule (Reader.readWhole rule (now (s .entry))) (now (table .entry)) (now (table .exit)) r ⌝ }
+{
+    reading::read_whole_into_by(s, table, rule)
+}
+
+pub fn image_length_by(t: Tables, src: &[u8], rule: TypeIdRule) -> Answer
+    ensures { λ r. ⌜ r ≡ Writer.measured rule t (now (src .entry)) ⌝ }
+{
+    writing::image_length_by(t, src, rule)
+}
+
+pub fn write_by(t: Tables, src: &[u8], out: &mut [u8], rule: TypeIdRule, way: AddressWay) -> Answer
+    ensures { λ r. ⌜ By.Writes rule way t (now (src .entry)) (now (out .entry)) r (now (out .exit)) ⌝ }
+{
+    writing::write_by(t, src, out, rule, way)
+}
+
+pub fn length_from_by(table: &FlatTable, src: &[u8], rule: TypeIdRule) -> Answer
+    ensures { λ r. ⌜ r ≡ Lent.measuredFrom rule (now (table .entry)) (now (src .entry)) ⌝ }
+{
+    match judge(table, src.len(), rule) {
+        Judged::Sound(total) => Answer::Count(total),
         Judged::Unsound(found) => {
             if BOUND <= found.fields {
                 return Answer::Refused(wrong(NOT_EXACT, 0));
             }
-            Answer::Refused(refusal_of(found, table, src.len()))
+            Answer::Refused(refusal_of(found, table, src.len(), rule))
+        }
+    }
+}
+
+pub fn write_from_by(
+    table: &FlatTable,
+    src: &[u8],
+    out: &mut [u8],
+    rule: TypeIdRule,
+    way: AddressWay,
+) -> Answer
+    ensures { λ r. ⌜ Lent.WritesFrom rule way (now (table .entry)) (now (src .entry)) (now (out .entry)) r (now (out .exit)) ⌝ }
+{
+    match judge(table, src.len(), rule) {
+        Judged::Sound(total) => write_measured(table, src, out, total, rule, way),
+        Judged::Unsound(found) => {
+            if BOUND <= found.fields {
+                return Answer::Refused(wrong(NOT_EXACT, 0));
+            }
+            Answer::Refused(refusal_of(found, table, src.len(), rule))
         }
     }
 }

@@ -3,4 +3,6 @@ pub mod Answers
 pub mod Readings
 pub mod Writings
 pub mod Day
+pub mod Named
+pub mod Rules
 pub mod Demands

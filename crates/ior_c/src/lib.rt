@@ -1,12 +1,14 @@
 // The library for firmware in C and in Rust: exported functions over numbers and octets, each lent by its caller as a pointer and a length
 // (include/ior.h). A table has 490 numbers (crate table), an answer six: number, place, both figures, the count, and the offset where a reading broke.
-// An array of another length, or a table with a number that is wider than its field, is answered with 255, and nothing is changed. What the arrays hold and how long they are is asked of
+// An array of another length, a table with a number that is wider than its field, or a number that names no rule or way is answered with 255, and nothing is changed. What the arrays hold and how long they are is asked of
 // no caller; that the pointers are right, C can't check.
 ghost use mathlib.Core.Path.{_≡_};
 ghost use lib.ListN.{length};
 ghost use Rattle.reference.specs.Questions.{firstBiop};
 ghost use Rattle.table.specs.Flat.{tablesFrom, nameFrom, nameNumbers, Lent};
-ghost use Rattle.ior_c.specs.Calls.{IorRead, IorReadWhole, IorLength, IorWrite, IorKind, IorTap, IorFirstBiop, IorDvbAddress, IorNameRead, IorNameWrite};
+ghost use Rattle.ior_c.specs.Today.{IorRead, IorReadWhole, IorLength, IorWrite};
+ghost use Rattle.ior_c.specs.Calls as Calls;
+ghost use Rattle.ior_c.specs.Calls.{IorReadBy, IorReadWholeBy, IorLengthBy, IorWriteBy, IorKind, IorTap, IorFirstBiop, IorDvbAddress, IorNameRead, IorNameWrite};
 ghost use Rattle.ior_c.specs.Said.{answerSize, numberOf, numbersOf, sized, askable, kindNumber, typeNumber, tapResult, tapPair, firstSaid};
 use faults::Judged;
 use faults::judge;
@@ -19,14 +21,16 @@ use octets::copy;
 use questions::is_dvb;
 use questions::object_kind;
 use questions::tap_numbers;
-use reading::read_leading_into;
-use reading::read_whole_into;
+use reading::read_leading_into_by;
+use reading::read_whole_into_by;
+use reference::AddressWay;
 use reference::Answer;
 use reference::NameComponent;
 use reference::ObjectKind;
 use reference::PLACE_PROFILES;
 use reference::PROFILES;
 use reference::TapNumbers;
+use reference::TypeIdRule;
 use reference::View;
 use reference::wrong;
 use survey::BOUND;
@@ -41,6 +45,13 @@ use writing::write_measured;
 
 // What each function answers when an array has another length than it must have, or a table is not exact.
 pub const NOT_ASKED: u32 = 255;
+
+// The numbers of the two rules, and of the one way.
+pub const MULTIPLE: u32 = 1;
+
+pub const GAP: u32 = 2;
+
+pub const CONSTANTS: u32 = 1;
 
 // How many numbers an answer and a name have.
 pub const ANSWER: usize = 6;
@@ -96,6 +107,75 @@ fn can_ask(table: &[u32], answer: usize) -> bool
     false
 }
 
+// ---- references, under a rule
+
+fn read_under(s: &[u8], table: &mut [u32], answer: &mut [u64], rule: TypeIdRule) -> u32
+    ensures { λ r. ⌜ Calls.IorRead rule (now (s .entry)) (now (table .entry)) (now (answer .entry)) r (now (answer .exit)) (now (table .exit)) ⌝ }
+{
+    if !is_sized(SIZE, table.len(), answer.len()) {
+        return NOT_ASKED;
+    }
+    put_answer(read_leading_into_by(s, table, rule), answer)
+}
+
+fn read_whole_under(s: &[u8], table: &mut [u32], answer: &mut [u64], rule: TypeIdRule) -> u32
+    ensures { λ r. ⌜ Calls.IorReadWhole rule (now (s .entry)) (now (table .entry)) (now (answer .entry)) r (now (answer .exit)) (now (table .exit)) ⌝ }
+{
+    if !is_sized(SIZE, table.len(), answer.len()) {
+        return NOT_ASKED;
+    }
+    put_answer(read_whole_into_by(s, table, rule), answer)
+}
+
+fn length_under(table: &[u32], s: &[u8], answer: &mut [u64], rule: TypeIdRule) -> u32
+    ensures { λ r. ⌜ Calls.IorLength rule (now (table .entry)) (now (s .entry)) (now (answer .entry)) r (now (answer .exit)) ⌝ }
+{
+    if !is_sized(SIZE, table.len(), answer.len()) {
+        return NOT_ASKED;
+    }
+    match judge(table, s.len(), rule) {
+        Judged::Sound(total) => put_answer(Answer::Count(total), answer),
+        Judged::Unsound(found) => {
+            if BOUND <= found.fields {
+                return NOT_ASKED;
+            }
+            put_answer(
+                Answer::Refused(refusal_of(found, table, s.len(), rule)),
+                answer,
+            )
+        }
+    }
+}
+
+fn write_under(
+    table: &[u32],
+    s: &[u8],
+    out: &mut [u8],
+    answer: &mut [u64],
+    rule: TypeIdRule,
+    way: AddressWay,
+) -> u32
+    ensures { λ r. ⌜ Calls.IorWrite rule way (now (table .entry)) (now (s .entry)) (now (out .entry)) (now (answer .entry)) r (now (answer .exit)) (now (out .exit)) ⌝ }
+{
+    if !is_sized(SIZE, table.len(), answer.len()) {
+        return NOT_ASKED;
+    }
+    match judge(table, s.len(), rule) {
+        Judged::Sound(total) => {
+            put_answer(write_measured(table, s, out, total, rule, way), answer)
+        }
+        Judged::Unsound(found) => {
+            if BOUND <= found.fields {
+                return NOT_ASKED;
+            }
+            put_answer(
+                Answer::Refused(refusal_of(found, table, s.len(), rule)),
+                answer,
+            )
+        }
+    }
+}
+
 // ---- references
 
 // Reads a leading reference into the table: octets consumed, or the refusal. An accepted reading keeps what stands behind the entries it
@@ -104,10 +184,7 @@ fn can_ask(table: &[u32], answer: usize) -> bool
 pub extern "C" fn ior_read(s: &[u8], table: &mut [u32], answer: &mut [u64]) -> u32
     ensures { λ r. ⌜ IorRead (now (s .entry)) (now (table .entry)) (now (answer .entry)) r (now (answer .exit)) (now (table .exit)) ⌝ }
 {
-    if !is_sized(SIZE, table.len(), answer.len()) {
-        return NOT_ASKED;
-    }
-    put_answer(read_leading_into(s, table), answer)
+    read_under(s, table, answer, TypeIdRule::Multiple)
 }
 
 // The same of a whole slice: nothing may be left over.
@@ -115,10 +192,7 @@ pub extern "C" fn ior_read(s: &[u8], table: &mut [u32], answer: &mut [u64]) -> u
 pub extern "C" fn ior_read_whole(s: &[u8], table: &mut [u32], answer: &mut [u64]) -> u32
     ensures { λ r. ⌜ IorReadWhole (now (s .entry)) (now (table .entry)) (now (answer .entry)) r (now (answer .exit)) (now (table .exit)) ⌝ }
 {
-    if !is_sized(SIZE, table.len(), answer.len()) {
-        return NOT_ASKED;
-    }
-    put_answer(read_whole_into(s, table), answer)
+    read_whole_under(s, table, answer, TypeIdRule::Multiple)
 }
 
 // The length of the image of the table over the source s; or 6, 8, 9 or 10. One pass over the table finds whether it is exact, and the length.
@@ -126,18 +200,7 @@ pub extern "C" fn ior_read_whole(s: &[u8], table: &mut [u32], answer: &mut [u64]
 pub extern "C" fn ior_length(table: &[u32], s: &[u8], answer: &mut [u64]) -> u32
     ensures { λ r. ⌜ IorLength (now (table .entry)) (now (s .entry)) (now (answer .entry)) r (now (answer .exit)) ⌝ }
 {
-    if !is_sized(SIZE, table.len(), answer.len()) {
-        return NOT_ASKED;
-    }
-    match judge(table, s.len()) {
-        Judged::Sound(total) => put_answer(Answer::Count(total), answer),
-        Judged::Unsound(found) => {
-            if BOUND <= found.fields {
-                return NOT_ASKED;
-            }
-            put_answer(Answer::Refused(refusal_of(found, table, s.len())), answer)
-        }
-    }
+    length_under(table, s, answer, TypeIdRule::Multiple)
 }
 
 // Writes the image of the table over the source s at the start of `out`: its length, or the refusal, which leaves `out` as it is.
@@ -145,18 +208,99 @@ pub extern "C" fn ior_length(table: &[u32], s: &[u8], answer: &mut [u64]) -> u32
 pub extern "C" fn ior_write(table: &[u32], s: &[u8], out: &mut [u8], answer: &mut [u64]) -> u32
     ensures { λ r. ⌜ IorWrite (now (table .entry)) (now (s .entry)) (now (out .entry)) (now (answer .entry)) r (now (answer .exit)) (now (out .exit)) ⌝ }
 {
-    if !is_sized(SIZE, table.len(), answer.len()) {
+    write_under(
+        table,
+        s,
+        out,
+        answer,
+        TypeIdRule::Multiple,
+        AddressWay::Constants,
+    )
+}
+
+// ---- references by a rule: 1, a type id's length is a multiple of 4; 2, any length, and a gap of octets FF up to the next one. Another number is answered
+// with 255, and nothing is changed.
+
+#[no_mangle]
+pub extern "C" fn ior_read_by(rule: u32, s: &[u8], table: &mut [u32], answer: &mut [u64]) -> u32
+    ensures { λ r. ⌜ IorReadBy rule (now (s .entry)) (now (table .entry)) (now (answer .entry)) r (now (answer .exit)) (now (table .exit)) ⌝ }
+{
+    if rule == MULTIPLE {
+        return read_under(s, table, answer, TypeIdRule::Multiple);
+    }
+    if rule == GAP {
+        return read_under(s, table, answer, TypeIdRule::Gap);
+    }
+    NOT_ASKED
+}
+
+#[no_mangle]
+pub extern "C" fn ior_read_whole_by(
+    rule: u32,
+    s: &[u8],
+    table: &mut [u32],
+    answer: &mut [u64],
+) -> u32
+    ensures { λ r. ⌜ IorReadWholeBy rule (now (s .entry)) (now (table .entry)) (now (answer .entry)) r (now (answer .exit)) (now (table .exit)) ⌝ }
+{
+    if rule == MULTIPLE {
+        return read_whole_under(s, table, answer, TypeIdRule::Multiple);
+    }
+    if rule == GAP {
+        return read_whole_under(s, table, answer, TypeIdRule::Gap);
+    }
+    NOT_ASKED
+}
+
+#[no_mangle]
+pub extern "C" fn ior_length_by(rule: u32, table: &[u32], s: &[u8], answer: &mut [u64]) -> u32
+    ensures { λ r. ⌜ IorLengthBy rule (now (table .entry)) (now (s .entry)) (now (answer .entry)) r (now (answer .exit)) ⌝ }
+{
+    if rule == MULTIPLE {
+        return length_under(table, s, answer, TypeIdRule::Multiple);
+    }
+    if rule == GAP {
+        return length_under(table, s, answer, TypeIdRule::Gap);
+    }
+    NOT_ASKED
+}
+
+// Writing also names the way an address is written: 1, with its constants.
+#[no_mangle]
+pub extern "C" fn ior_write_by(
+    rule: u32,
+    way: u32,
+    table: &[u32],
+    s: &[u8],
+    out: &mut [u8],
+    answer: &mut [u64],
+) -> u32
+    ensures { λ r. ⌜ IorWriteBy rule way (now (table .entry)) (now (s .entry)) (now (out .entry)) (now (answer .entry)) r (now (answer .exit)) (now (out .exit)) ⌝ }
+{
+    if way != CONSTANTS {
         return NOT_ASKED;
     }
-    match judge(table, s.len()) {
-        Judged::Sound(total) => put_answer(write_measured(table, s, out, total), answer),
-        Judged::Unsound(found) => {
-            if BOUND <= found.fields {
-                return NOT_ASKED;
-            }
-            put_answer(Answer::Refused(refusal_of(found, table, s.len())), answer)
-        }
+    if rule == MULTIPLE {
+        return write_under(
+            table,
+            s,
+            out,
+            answer,
+            TypeIdRule::Multiple,
+            AddressWay::Constants,
+        );
     }
+    if rule == GAP {
+        return write_under(
+            table,
+            s,
+            out,
+            answer,
+            TypeIdRule::Gap,
+            AddressWay::Constants,
+        );
+    }
+    NOT_ASKED
 }
 
 // ---- questions

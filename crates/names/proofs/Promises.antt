@@ -13,7 +13,8 @@ use Rattle.reference.specs.Meaning.{Name}
 use Rattle.reference.specs.Steps.{Answer, ok, refused, seen}
 use Rattle.reference.specs.Contents.{nameOf}
 use Rattle.reference.specs.Names.{LeadsShort, readShortName, shortAt}
-use Rattle.reference.specs.Where.{Points}
+use Rattle.reference.specs.declared.TypeIdRule.the-variants.{Multiple}
+use Rattle.reference.specs.Today.{Points}
 use Rattle.reference.proofs.Steps.{seen-ok, seen-no}
 use Rattle.reference.proofs.Blame.{short-points}
 use Rattle.reference.proofs.Names.{short-accepted, short-only-accepted, short-shown, short-refused, short-gives-back, short-output-leads, short-output-reads-back}
@@ -64,7 +65,7 @@ views-show d o r h x n e =
 
 -- The third figure of a refused reading lies within the slice, and 6 has 0.
 pub offset-inside : (d : List ℕ) (r : ShortNameRead) → Reads-name d r → (x : Refusal) → r ≡ Names.Not x → Points d x
-offset-inside d r h x e = short-points d x (seen-no shortAt (readShortName d) (sym h ∙ ap shortTold e))
+offset-inside d r h x e = short-points Multiple d x (seen-no shortAt (readShortName d) (sym h ∙ ap shortTold e))
 
 -- A refused writing changes no octet.
 pub refused-writing-leaves-all : (x : NameComponent) (s d e : List ℕ) (y : Refusal) → Writes x s d (Refused y) e → e ≡ d

@@ -2,6 +2,7 @@
 use Prim.Native.Nat.{ℕ}
 use mathlib.Core.Path.{_≡_, sym, _∙_}
 use mathlib.Core.List.{List}
+use Rattle.reference.specs.declared.TypeIdRule.{TypeIdRule}
 use Rattle.reference.specs.declared.Reading.{Reading}
 use Rattle.reference.specs.declared.Answer.{Answer as Told}
 use Rattle.reference.specs.Meaning.{Reference}
@@ -9,19 +10,20 @@ use Rattle.reference.specs.Steps.{Answer}
 use Rattle.reference.specs.Reader.{readLeading, readWhole, answered}
 use Rattle.reading.specs.Into.{ReadInto}
 
-same-into : {x : Answer Reference} {t e e′ : List ℕ} {r r′ : Told} → ReadInto x t e r → ReadInto x t e′ r′ → (r ≡ r′) × (e ≡ e′)
-same-into h h′ = (h .answers ∙ sym (h′ .answers), h .leaves ∙ sym (h′ .leaves))
+module _ (rule : TypeIdRule) where
+  same-into : {x : Answer Reference} {t e e′ : List ℕ} {r r′ : Told} → ReadInto rule x t e r → ReadInto rule x t e′ r′ → (r ≡ r′) × (e ≡ e′)
+  same-into h h′ = (h .answers ∙ sym (h′ .answers), h .leaves ∙ sym (h′ .leaves))
 
-module _ (d t : List ℕ) {e e′ : List ℕ} {r r′ : Told} where
-  pub leading-into-determined : ReadInto (readLeading d) t e r → ReadInto (readLeading d) t e′ r′ → (r ≡ r′) × (e ≡ e′)
-  leading-into-determined h h′ = same-into h h′
+  module _ (d t : List ℕ) {e e′ : List ℕ} {r r′ : Told} where
+    pub leading-into-determined : ReadInto rule (readLeading rule d) t e r → ReadInto rule (readLeading rule d) t e′ r′ → (r ≡ r′) × (e ≡ e′)
+    leading-into-determined h h′ = same-into h h′
 
-  pub whole-into-determined : ReadInto (readWhole d) t e r → ReadInto (readWhole d) t e′ r′ → (r ≡ r′) × (e ≡ e′)
-  whole-into-determined h h′ = same-into h h′
+    pub whole-into-determined : ReadInto rule (readWhole rule d) t e r → ReadInto rule (readWhole rule d) t e′ r′ → (r ≡ r′) × (e ≡ e′)
+    whole-into-determined h h′ = same-into h h′
 
-module _ (d : List ℕ) {r r′ : Reading} where
-  pub leading-determined : r ≡ answered (readLeading d) → r′ ≡ answered (readLeading d) → r ≡ r′
-  leading-determined h h′ = h ∙ sym h′
+  module _ (d : List ℕ) {r r′ : Reading} where
+    pub leading-determined : r ≡ answered rule (readLeading rule d) → r′ ≡ answered rule (readLeading rule d) → r ≡ r′
+    leading-determined h h′ = h ∙ sym h′
 
-  pub whole-determined : r ≡ answered (readWhole d) → r′ ≡ answered (readWhole d) → r ≡ r′
-  whole-determined h h′ = h ∙ sym h′
+    pub whole-determined : r ≡ answered rule (readWhole rule d) → r′ ≡ answered rule (readWhole rule d) → r ≡ r′
+    whole-determined h h′ = h ∙ sym h′

@@ -10,6 +10,7 @@ use mir.Syntax.{w8}
 use mir.Val.{Fits}
 use lib.Dec.{ltb, nltb→le, eqb}
 use lib.ListN.{length, getD, replicate}
+use Rattle.reference.specs.declared.TypeIdRule.{TypeIdRule}
 use Rattle.octets.specs.Octets.{splice}
 use Rattle.reference.specs.declared.Refusal.{Refusal}
 use Rattle.reference.specs.declared.View.{View}
@@ -78,72 +79,73 @@ module _ (whole : Bool) (last end p t n e : ℕ) (r : Check) (told : (x : Answer
 abbrev asked : Bool → List ℕ → Reference → ℕ → Answer Reference
 asked whole d m last = ends whole last (length d) (length (m .profiles)) (sum tapsOf (m .profiles)) (sum namesOf (m .profiles)) (sum extrasOf (m .profiles)) (ok m last)
 
-reading-opened : (whole : Bool) (d : List ℕ) → readAs whole d ≡ followed (opening d) (profilesBehind (asked whole d) d)
-unfolding ends
-reading-opened true d = simp (whole-cut, passed-then)
-reading-opened false d = leading-cut d
+module _ (rule : TypeIdRule) where
+  reading-opened : (whole : Bool) (d : List ℕ) → readAs rule whole d ≡ followed (opening rule d) (profilesBehind (asked whole d) d)
+  unfolding ends
+  reading-opened true d = simp (whole-cut rule, passed-then)
+  reading-opened false d = leading-cut rule d
 
-module _ (whole : Bool) (d t : List ℕ) (r : HeadRead) (o : HeadIn d r) where
-  abbrev Left : List ℕ → Told → Type 0
-  Left e v = Leaves (seen (referenceFiled t) (readAs whole d)) e v
+  module _ (whole : Bool) (d t : List ℕ) (r : HeadRead) (o : HeadIn rule d r) where
+    abbrev Left : List ℕ → Told → Type 0
+    Left e v = Leaves (seen (referenceFiled rule t) (readAs rule whole d)) e v
 
-  pub no-head : {x : Refusal} {e : List ℕ} → r ≡ Heads.Not x → Left e (Refused x)
-  no-head {x} q = let no : opening d ≡ refused x = subst (HeadIn d) q o in record { told = rw (reading-opened whole d, no) }
+    pub no-head : {x : Refusal} {e : List ℕ} → r ≡ Heads.Not x → Left e (Refused x)
+    no-head {x} q = let no : opening rule d ≡ refused x = subst (HeadIn rule d) q o in record { told = rw (reading-opened whole d, no) }
 
-  module _ {v : View} {count next : ℕ} (q : r ≡ Heads.Got v count next) where
-    opens : Opens d v count next
-    opens = subst (HeadIn d) q o
+    module _ {v : View} {count next : ℕ} (q : r ≡ Heads.Got v count next) where
+      opens : Opens rule d v count next
+      opens = subst (HeadIn rule d) q o
 
-    pub slice-small : length d ≤ 65535
-    slice-small = opens .small
+      pub slice-small : length d ≤ 65535
+      slice-small = opens .small
 
-    pub profiles-inside : next ≤ length d
-    profiles-inside = opens .inside
+      pub profiles-inside : next ≤ length d
+      profiles-inside = opens .inside
 
-    module _ {t′ : List ℕ} (w : ProfilesRead) (p : StoresProfiles next t (many count readProfile d next (length d)) t′ w) where
-      pub no-profiles : {x : Refusal} {e : List ℕ} → w ≡ Ways.Not x → Left e (Refused x)
-      no-profiles f = record { told = rw (reading-opened whole d, opens .read, seen-no (filledFrom next t 0 noCounts) (many count readProfile d next (length d)) (sym (p .told) ∙ ap (profilesTold t′) f)) }
+      module _ {t′ : List ℕ} (w : ProfilesRead) (p : StoresProfiles next t (many count readProfile d next (length d)) t′ w) where
+        pub no-profiles : {x : Refusal} {e : List ℕ} → w ≡ Ways.Not x → Left e (Refused x)
+        no-profiles f = record { told = rw (reading-opened whole d, opens .read, seen-no (filledFrom next t 0 noCounts) (many count readProfile d next (length d)) (sym (p .told) ∙ ap (profilesTold t′) f)) }
 
-      module _ {u : Counts} {last : ℕ} (f : w ≡ Ways.Got u last) (octs : (k : ℕ) → Fits w8 (getD d k 0)) where
-        -- the profiles end inside, are as many as the head says, and are filed
-        read : (l : List Profile) × (many count readProfile d next (length d) ≡ ok l last) × (record { table = t′; counts = u } ≡ filledFrom next t 0 noCounts l) × (last ≤ length d) × (length l ≡ count)
-        read =
-            let (l, e, s) = seen-ok (filledFrom next t 0 noCounts) _ (sym (p .told) ∙ ap (profilesTold t′) f) in
-            let (found, good) =
-            reads-many profile-reads count .sound d next (length d) (record { octs = octets-of-slice d (λ k. octs k .fits); fits = omega arith; room = omega (arith, profiles-inside) }) l last e in
-            (l, e, s, found .room, good .1)
+        module _ {u : Counts} {last : ℕ} (f : w ≡ Ways.Got u last) (octs : (k : ℕ) → Fits w8 (getD d k 0)) where
+          -- the profiles end inside, are as many as the head says, and are filed
+          read : (l : List Profile) × (many count readProfile d next (length d) ≡ ok l last) × (record { table = t′; counts = u } ≡ filledFrom next t 0 noCounts l) × (last ≤ length d) × (length l ≡ count)
+          read =
+              let (l, e, s) = seen-ok (filledFrom next t 0 noCounts) _ (sym (p .told) ∙ ap (profilesTold t′) f) in
+              let (found, good) =
+              reads-many profile-reads count .sound d next (length d) (record { octs = octets-of-slice d (λ k. octs k .fits); fits = omega arith; room = omega (arith, profiles-inside) }) l last e in
+              (l, e, s, found .room, good .1)
 
-        pub last-inside : last ≤ length d
-        last-inside = read .3
+          pub last-inside : last ≤ length d
+          last-inside = read .3
 
-        -- the front is put over the profiles, if the checks pass
-        pub closed : {e : List ℕ} {k : Told}
-            → Leaves (ends whole last (length d) count (u .taps) (u .names) (u .extras) (ok (splice t′ 0 (frontNumbers v count (u .taps) (u .names) (u .extras))) last)) e k → Left e k
-        closed c =
-            let (l, profiles, s, _, n) = read in
-            let m : Reference = record { typeId = opens .id; profiles = l } in
-            let whole-read : readAs whole d ≡ asked whole d m last = rw (reading-opened whole d, opens .read, profiles) in
-            let counts : Counts = record { taps = sum tapsOf l; names = sum namesOf l; extras = sum extrasOf l } in
-            let filed : _≡_ {A = Filled} (record { table = t′; counts = u }) (record { table = profilesFiled (profilesAt m) t 0 noCounts l; counts = counts }) =
-            s ∙ (λ j. record { table = profilesFiled (opens .behind j) t 0 noCounts l; counts = record { taps = zero-add (counts .taps) j; names = zero-add (counts .names) j; extras = zero-add (counts .extras) j } }) in
-            record {
-              told =
-                  c .told
-                  ∙ (λ j. ends whole last (length d) (sym n j) (filed j .counts .taps) (filed j .counts .names) (filed j .counts .extras)
-                  (ok (splice (filed j .table) 0 (frontNumbers (opens .shown j) (sym n j) (filed j .counts .taps) (filed j .counts .names) (filed j .counts .extras))) last))
-                  ∙ sym (followed-seen (referenceFiled t) (readAs whole d)
-                  ∙ ap (λ (x : Answer Reference). followed x (λ a n. ok (referenceFiled t a) n)) whole-read ∙ ends-then whole last (length d) _ _ _ _ (ok m last) _);
-            }
+          -- the front is put over the profiles, if the checks pass
+          pub closed : {e : List ℕ} {k : Told}
+              → Leaves (ends whole last (length d) count (u .taps) (u .names) (u .extras) (ok (splice t′ 0 (frontNumbers v count (u .taps) (u .names) (u .extras))) last)) e k → Left e k
+          closed c =
+              let (l, profiles, s, _, n) = read in
+              let m : Reference = record { typeId = opens .id; profiles = l } in
+              let whole-read : readAs rule whole d ≡ asked whole d m last = rw (reading-opened whole d, opens .read, profiles) in
+              let counts : Counts = record { taps = sum tapsOf l; names = sum namesOf l; extras = sum extrasOf l } in
+              let filed : _≡_ {A = Filled} (record { table = t′; counts = u }) (record { table = profilesFiled (profilesAt rule m) t 0 noCounts l; counts = counts }) =
+              s ∙ (λ j. record { table = profilesFiled (opens .behind j) t 0 noCounts l; counts = record { taps = zero-add (counts .taps) j; names = zero-add (counts .names) j; extras = zero-add (counts .extras) j } }) in
+              record {
+                told =
+                    c .told
+                    ∙ (λ j. ends whole last (length d) (sym n j) (filed j .counts .taps) (filed j .counts .names) (filed j .counts .extras)
+                    (ok (splice (filed j .table) 0 (frontNumbers (opens .shown j) (sym n j) (filed j .counts .taps) (filed j .counts .names) (filed j .counts .extras))) last))
+                    ∙ sym (followed-seen (referenceFiled rule t) (readAs rule whole d)
+                    ∙ ap (λ (x : Answer Reference). followed x (λ a n. ok (referenceFiled rule t a) n)) whole-read ∙ ends-then whole last (length d) _ _ _ _ (ok m last) _);
+              }
 
--- ---- what is left once a refused table is cleared
+  -- ---- what is left once a refused table is cleared
 
-module _ (x : Answer Reference) {t e : List ℕ} (r : Told) (h : Leaves (seen (referenceFiled t) x) e r) where
-  pub read-kept : {n : ℕ} → r ≡ Count n → ReadInto x t e (Count n)
-  read-kept q =
-      let (m, p, f) = seen-ok (referenceFiled t) x (sym (h .told) ∙ ap (openTold e) q) in
-      record { answers = rw p; leaves = rw p f }
+  module _ (x : Answer Reference) {t e : List ℕ} (r : Told) (h : Leaves (seen (referenceFiled rule t) x) e r) where
+    pub read-kept : {n : ℕ} → r ≡ Count n → ReadInto rule x t e (Count n)
+    read-kept q =
+        let (m, p, f) = seen-ok (referenceFiled rule t) x (sym (h .told) ∙ ap (openTold e) q) in
+        record { answers = rw p; leaves = rw p f }
 
-  pub read-cleared : {y : Refusal} {e′ : List ℕ} → r ≡ Refused y → e′ ≡ replicate tableSize 0 → ReadInto x t e′ (Refused y)
-  read-cleared q z =
-      let p = seen-no (referenceFiled t) x (sym (h .told) ∙ ap (openTold e) q) in
-      record { answers = rw p; leaves = rw p z }
+    pub read-cleared : {y : Refusal} {e′ : List ℕ} → r ≡ Refused y → e′ ≡ replicate tableSize 0 → ReadInto rule x t e′ (Refused y)
+    read-cleared q z =
+        let p = seen-no (referenceFiled rule t) x (sym (h .told) ∙ ap (openTold e) q) in
+        record { answers = rw p; leaves = rw p z }

@@ -4,6 +4,7 @@ use Prim.Native.Nat.{ℕ}
 use mathlib.Core.Path.{_≡_}
 use mathlib.Core.List.{List}
 use lib.ListN.{replicate}
+use Rattle.reference.specs.declared.TypeIdRule.{TypeIdRule}
 use Rattle.reference.specs.declared.Answer.{Answer as Told}
 use Rattle.reference.specs.Meaning.{Reference}
 use Rattle.reference.specs.Steps.{Answer, ok, refused}
@@ -11,11 +12,11 @@ use Rattle.reference.specs.Reader.{answered}
 use Rattle.table.specs.Flat.{tableSize}
 use Rattle.table.specs.Filed.{referenceFiled}
 
-abbrev pub tableLeft : Answer Reference → List ℕ → List ℕ
-tableLeft (ok m n) t = referenceFiled t m
-tableLeft (refused x) t = replicate tableSize 0
+abbrev pub tableLeft : TypeIdRule → Answer Reference → List ℕ → List ℕ
+tableLeft rule (ok m n) t = referenceFiled rule t m
+tableLeft rule (refused x) t = replicate tableSize 0
 
--- A reading x into the table t left e and answered r.
-pub record ReadInto (x : Answer Reference) (t e : List ℕ) (r : Told) : Type 0 where
-  pub answers : r ≡ answered x .answer
-  pub leaves : e ≡ tableLeft x t
+-- A reading x under the rule, into the table t, left e and answered r.
+pub record ReadInto (rule : TypeIdRule) (x : Answer Reference) (t e : List ℕ) (r : Told) : Type 0 where
+  pub answers : r ≡ answered rule x .answer
+  pub leaves : e ≡ tableLeft rule x t

@@ -6,15 +6,19 @@ ghost use mathlib.Core.List.{List};
 ghost use lib.ListN.{length};
 ghost use Rattle.octets.specs.Octets.{splice};
 ghost use Rattle.reference.specs.Steps.{Answer as Read, ok, seen, many};
-ghost use Rattle.reference.specs.Reader.{readBody, readProfile, readLeading, readWhole, answered};
+ghost use Rattle.reference.specs.Reader.{readBody, readProfile};
+ghost use Rattle.reference.specs.Reader as Reader;
+ghost use Rattle.reference.specs.Today.{readLeading, readWhole, answered};
 ghost use Rattle.reference.specs.Heads.{readHeader};
 ghost use Rattle.table.specs.Flat.{frontNumbers, Lent};
 ghost use Rattle.table.specs.Filed.{referenceFiled};
 ghost use Rattle.read_parts.specs.Told.{StoresBody};
-ghost use Rattle.reading.specs.Open.{headerTold, HeadIn, rooms, ends, passing, readAs};
+ghost use Rattle.reading.specs.Open.{headerTold, LengthKnown, LengthIn, GapIn, HeadIn, rooms, ends, passing, readAs};
 ghost use Rattle.reading.specs.Stored.{StoresProfiles, Leaves};
-ghost use Rattle.reading.specs.Into.{ReadInto};
+ghost use Rattle.reading.specs.Into as Into;
+ghost use Rattle.reading.specs.Today.{ReadInto};
 use octets::be32;
+use octets::is_blank;
 use read_biop::read_biop;
 use read_lite::read_lite;
 use read_parts::BodyRead;
@@ -24,6 +28,8 @@ use reference::EXTRAS;
 use reference::MOST;
 use reference::NAMES;
 use reference::PLACE_EXTRAS;
+use reference::PLACE_GAP;
+use reference::PLACE_GAP_VALUE;
 use reference::PLACE_NAMES;
 use reference::PLACE_PROFILE_COUNT;
 use reference::PLACE_PROFILE_HEADER;
@@ -38,8 +44,11 @@ use reference::Refusal;
 use reference::TAG_BIOP;
 use reference::TAG_LITE_OPTIONS;
 use reference::TAPS;
+use reference::TypeIdRule;
 use reference::View;
+use reference::allows;
 use reference::cut;
+use reference::gap_length;
 use reference::left_over;
 use reference::shift;
 use reference::too_large;
@@ -93,42 +102,87 @@ enum HeadRead {
     },
 }
 
-fn read_head(d: &[u8]) -> HeadRead
-    ensures { λ r. ⌜ HeadIn (now (d .entry)) r ⌝ }
+// The length of the type id: the rule allows it, and the type id is there.
+enum LengthRead {
+    Got { len: usize },
+    Not { why: Refusal },
+}
+
+fn read_length(d: &[u8], rule: TypeIdRule) -> LengthRead
+    ensures { λ r. ⌜ LengthIn rule (now (d .entry)) r ⌝ }
 {
     let end = d.len();
     if MOST < end {
-        return HeadRead::Not {
+        return LengthRead::Not {
             why: too_large(6, end),
         };
     }
     if end < 8 {
-        return HeadRead::Not {
+        return LengthRead::Not {
             why: cut(PLACE_REFERENCE_FIXED, 0, 8, end),
         };
     }
     let len = be32(d, 0) as usize;
-    if len % 4 != 0 {
-        return HeadRead::Not {
+    if !allows(rule, len) {
+        return LengthRead::Not {
             why: wrong_value(4, PLACE_TYPE_ID_LENGTH, 0),
         };
     }
     if end - 4 < len {
-        return HeadRead::Not {
+        return LengthRead::Not {
             why: too_long(4, len, end),
         };
     }
+    LengthRead::Got { len }
+}
+
+// The rule's gap at `at`, behind a type id of `len` octets: it must be there, and its octets are FF.
+fn check_gap(d: &[u8], at: usize, len: usize, rule: TypeIdRule) -> Check
+    requires { ⌜ (at ≤ length (now d)) × (length (now d) ≤ 65535) ⌝ }
+    ensures { λ r. ⌜ GapIn rule len (now (d .entry)) at r ⌝ }
+{
+    let k = gap_length(rule, len);
+    let end = d.len();
+    if end < at + k {
+        return Check::Refuse(cut(PLACE_GAP, at, k, end));
+    }
+    if !is_blank(d, at, k) {
+        return Check::Refuse(wrong_value(3, PLACE_GAP_VALUE, at));
+    }
+    Check::Pass
+}
+
+// Behind a type id of `len` octets: its gap, and the profile count.
+fn read_behind(d: &[u8], len: usize, rule: TypeIdRule) -> HeadRead
+    requires { ⌜ LengthKnown rule (now d) len ⌝ }
+    ensures { λ r. ⌜ HeadIn rule (now (d .entry)) r ⌝ }
+{
     let pos = 4 + len;
-    let first = pos + 4;
+    let gap = check_gap(d, pos, len, rule);
+    if let Check::Refuse(why) = gap {
+        return HeadRead::Not { why };
+    }
+    let end = d.len();
+    let at = pos + gap_length(rule, len);
+    let first = at + 4;
     if end < first {
         return HeadRead::Not {
-            why: cut(PLACE_PROFILE_COUNT, pos, 4, end),
+            why: cut(PLACE_PROFILE_COUNT, at, 4, end),
         };
     }
     HeadRead::Got {
         type_id: view_of(0, 4, len),
-        count: be32(d, pos) as usize,
+        count: be32(d, at) as usize,
         next: first,
+    }
+}
+
+fn read_head(d: &[u8], rule: TypeIdRule) -> HeadRead
+    ensures { λ r. ⌜ HeadIn rule (now (d .entry)) r ⌝ }
+{
+    match read_length(d, rule) {
+        LengthRead::Not { why } => HeadRead::Not { why },
+        LengthRead::Got { len } => read_behind(d, len, rule),
     }
 }
 
@@ -263,11 +317,11 @@ fn finish(
 }
 
 // The reference at the start of d; `whole`: nothing may be left over. Of a refused reading the table is open.
-fn read_reference(d: &[u8], whole: bool, table: &mut [u32]) -> Answer
+fn read_reference(d: &[u8], whole: bool, table: &mut [u32], rule: TypeIdRule) -> Answer
     requires { ⌜ Lent (now table) ⌝ }
-    ensures { λ r. ⌜ Leaves (seen (referenceFiled (now (table .entry))) (readAs whole (now (d .entry)))) (now (table .exit)) r ⌝ }
+    ensures { λ r. ⌜ Leaves (seen (referenceFiled rule (now (table .entry))) (readAs rule whole (now (d .entry)))) (now (table .exit)) r ⌝ }
 {
-    match read_head(d) {
+    match read_head(d, rule) {
         HeadRead::Not { why } => Answer::Refused(why),
         HeadRead::Got {
             type_id,
@@ -283,11 +337,11 @@ fn read_reference(d: &[u8], whole: bool, table: &mut [u32]) -> Answer
 }
 
 // A refused reading leaves empty tables.
-fn read_or_clear(d: &[u8], whole: bool, table: &mut [u32]) -> Answer
+fn read_or_clear(d: &[u8], whole: bool, table: &mut [u32], rule: TypeIdRule) -> Answer
     requires { ⌜ Lent (now table) ⌝ }
-    ensures { λ r. ⌜ ReadInto (readAs whole (now (d .entry))) (now (table .entry)) (now (table .exit)) r ⌝ }
+    ensures { λ r. ⌜ Into.ReadInto rule (readAs rule whole (now (d .entry))) (now (table .entry)) (now (table .exit)) r ⌝ }
 {
-    match read_reference(d, whole, table) {
+    match read_reference(d, whole, table, rule) {
         Answer::Count(n) => Answer::Count(n),
         Answer::Refused(why) => {
             clear(table);
@@ -296,39 +350,66 @@ fn read_or_clear(d: &[u8], whole: bool, table: &mut [u32]) -> Answer
     }
 }
 
-// A leading reference into a lent table: octets consumed, or the refusal. An accepted reading keeps what stands behind the
+// A leading reference into a lent table, under the rule: octets consumed, or the refusal. An accepted reading keeps what stands behind the
 // entries it fills, a refused one leaves zeros.
+pub fn read_leading_into_by(d: &[u8], table: &mut [u32], rule: TypeIdRule) -> Answer
+    requires { ⌜ Lent (now table) ⌝ }
+    ensures { λ r. ⌜ Into.ReadInto rule (Reader.readLeading rule (now (d .entry))) (now (table .entry)) (now (table .exit)) r ⌝ }
+{
+    read_or_clear(d, false, table, rule)
+}
+
+// The same of a whole slice: nothing may be left over.
+pub fn read_whole_into_by(d: &[u8], table: &mut [u32], rule: TypeIdRule) -> Answer
+    requires { ⌜ Lent (now table) ⌝ }
+    ensures { λ r. ⌜ Into.ReadInto rule (Reader.readWhole rule (now (d .entry))) (now (table .entry)) (now (table .exit)) r ⌝ }
+{
+    read_or_clear(d, true, table, rule)
+}
+
+// A leading reference by value, under the rule: octets consumed and the tables, or the refusal and empty tables.
+pub fn read_leading_by(d: &[u8], rule: TypeIdRule) -> Reading
+    ensures { λ r. ⌜ r ≡ Reader.answered rule (Reader.readLeading rule (now (d .entry))) ⌝ }
+{
+    let mut table = [0u32; SIZE];
+    let answer = read_leading_into_by(d, &mut table, rule);
+    let tables = tables_of(&table);
+    Reading { answer, tables }
+}
+
+// The same of a whole slice: nothing may be left over.
+pub fn read_whole_by(d: &[u8], rule: TypeIdRule) -> Reading
+    ensures { λ r. ⌜ r ≡ Reader.answered rule (Reader.readWhole rule (now (d .entry))) ⌝ }
+{
+    let mut table = [0u32; SIZE];
+    let answer = read_whole_into_by(d, &mut table, rule);
+    let tables = tables_of(&table);
+    Reading { answer, tables }
+}
+
+// The four that name no rule: rule 1.
 pub fn read_leading_into(d: &[u8], table: &mut [u32]) -> Answer
     requires { ⌜ Lent (now table) ⌝ }
     ensures { λ r. ⌜ ReadInto (readLeading (now (d .entry))) (now (table .entry)) (now (table .exit)) r ⌝ }
 {
-    read_or_clear(d, false, table)
+    read_leading_into_by(d, table, TypeIdRule::Multiple)
 }
 
-// The same of a whole slice: nothing may be left over.
 pub fn read_whole_into(d: &[u8], table: &mut [u32]) -> Answer
     requires { ⌜ Lent (now table) ⌝ }
     ensures { λ r. ⌜ ReadInto (readWhole (now (d .entry))) (now (table .entry)) (now (table .exit)) r ⌝ }
 {
-    read_or_clear(d, true, table)
+    read_whole_into_by(d, table, TypeIdRule::Multiple)
 }
 
-// A leading reference by value: octets consumed and the tables, or the refusal and empty tables.
 pub fn read_leading(d: &[u8]) -> Reading
     ensures { λ r. ⌜ r ≡ answered (readLeading (now (d .entry))) ⌝ }
 {
-    let mut table = [0u32; SIZE];
-    let answer = read_leading_into(d, &mut table);
-    let tables = tables_of(&table);
-    Reading { answer, tables }
+    read_leading_by(d, TypeIdRule::Multiple)
 }
 
-// The same of a whole slice: nothing may be left over.
 pub fn read_whole(d: &[u8]) -> Reading
     ensures { λ r. ⌜ r ≡ answered (readWhole (now (d .entry))) ⌝ }
 {
-    let mut table = [0u32; SIZE];
-    let answer = read_whole_into(d, &mut table);
-    let tables = tables_of(&table);
-    Reading { answer, tables }
+    read_whole_by(d, TypeIdRule::Multiple)
 }

@@ -11,6 +11,7 @@ use lib.ListN.{length}
 use lib.Seq.{take-all}
 use lib.Dec.{T, ltb, nltb→le, eqb, eqb→eq, eqb-refl, not-T}
 use Rattle.octets.specs.Octets.{part, be}
+use Rattle.reference.specs.declared.TypeIdRule.{TypeIdRule}
 use Rattle.reference.specs.declared.Refusal.{Refusal}
 use Rattle.reference.specs.Meaning.{biop, lite, opaque, Reference}
 use Rattle.reference.specs.Layout.{tag-biop, tag-lite}
@@ -48,10 +49,11 @@ pub profile-cut : (d : List ℕ) (pos end : ℕ) → readProfile d pos end ≡ a
 unfolding readProfile readHeader after need number fits done
 profile-cut d pos end = simp guarded-then
 
-pub reference-cut : (d : List ℕ) (pos end : ℕ)
-    → readReference d pos end ≡ after readHead (λ h. after (many (h .count) readProfile) λ l. done (record { typeId = h .typeId; profiles = l })) d pos end
-unfolding readReference readHead need checked number run after done
-reference-cut d pos end = simp (guarded-then, passed-then, followed-followed)
+module _ (rule : TypeIdRule) where
+  pub reference-cut : (d : List ℕ) (pos end : ℕ)
+      → readReference rule d pos end ≡ after (readHead rule) (λ h. after (many (h .count) readProfile) λ l. done (record { typeId = h .typeId; profiles = l })) d pos end
+  unfolding readReference readHead need checked number run after done
+  reference-cut d pos end = simp (guarded-then, passed-then, followed-followed)
 
 -- ---- a count, and a run behind its length, of w octets
 
@@ -188,13 +190,14 @@ module _ (t : ℕ) (s : List ℕ) (n : ℕ) where
 abbrev pub profilesBehind : (Reference → ℕ → Answer Reference) → List ℕ → Head → ℕ → Answer Reference
 profilesBehind ask d h next = followed (many (h .count) readProfile d next (length d)) (λ l last. ask (record { typeId = h .typeId; profiles = l }) last)
 
--- 6, the head, the profiles, 7
-pub leading-cut : (d : List ℕ) → readLeading d ≡ followed (small d (readHead d 0 (length d))) (profilesBehind roomy d)
-unfolding readLeading after done
-leading-cut d = simp (reference-cut, guarded-then, followed-followed)
+module _ (rule : TypeIdRule) where
+  -- 6, the head, the profiles, 7
+  pub leading-cut : (d : List ℕ) → readLeading rule d ≡ followed (small d (readHead rule d 0 (length d))) (profilesBehind roomy d)
+  unfolding readLeading after done
+  leading-cut d = simp (reference-cut rule, guarded-then, followed-followed)
 
--- the same, with what is left over asked for before 7
-pub whole-cut : (d : List ℕ)
-    → readWhole d ≡ followed (small d (readHead d 0 (length d))) (profilesBehind (λ m last. followed (pick (eqb last (length d)) (ok m last) (refused (leftAt place-reference-leftover last (length d)))) roomy) d)
-unfolding readWhole ending after done
-whole-cut d = simp (reference-cut, guarded-then, followed-followed)
+  -- the same, with what is left over asked for before 7
+  pub whole-cut : (d : List ℕ)
+      → readWhole rule d ≡ followed (small d (readHead rule d 0 (length d))) (profilesBehind (λ m last. followed (pick (eqb last (length d)) (ok m last) (refused (leftAt place-reference-leftover last (length d)))) roomy) d)
+  unfolding readWhole ending after done
+  whole-cut d = simp (reference-cut rule, guarded-then, followed-followed)

@@ -486,8 +486,18 @@ module _ {A : Type 0} {good : A → Type 0} {lay : A → List ℕ} where
         least = λ a g. h .least a (down a g);
       }
 
+  -- .. of what is good
+  pub reads-laid : {m : ℕ} {r : Reader A} (lay′ : A → List ℕ) → ((a : A) → good a → lay a ≡ lay′ a) → Reads m r lay good → Reads m r lay′ good
+  reads-laid {m} lay′ e h =
+      record {
+        sound = λ d pos end c a next q. let s = h .sound d pos end c a next q in (subst (λ (l : List ℕ). Found d pos end l next) (e a (s .1)) (s .0), s .1);
+        complete = λ d pos end c a next f g. h .complete d pos end c a next (subst (λ (l : List ℕ). Found d pos end l next) (sym (e a g)) f) g;
+        short = λ d pos end c a s g. h .short d pos end c a (subst (λ (l : List ℕ). Cut d pos end l) (sym (e a g)) s) g;
+        least = λ a g. subst (λ (l : List ℕ). m ≤ length l) (e a g) (h .least a g);
+      }
+
   pub reads-lay : {m : ℕ} {r : Reader A} (lay′ : A → List ℕ) → ((a : A) → lay a ≡ lay′ a) → Reads m r lay good → Reads m r lay′ good
-  reads-lay {m} {r} lay′ e h = subst (λ (l : A → List ℕ). Reads m r l good) (λ j a. e a j) h
+  reads-lay lay′ e h = reads-laid lay′ (λ a g. e a) h
 
   pub fills-lay : {r : Reader A} (lay′ : A → List ℕ) → ((a : A) → lay a ≡ lay′ a) → Fills r lay good → Fills r lay′ good
   fills-lay {r} lay′ e h = subst (λ (l : A → List ℕ). Fills r l good) (λ j a. e a j) h

@@ -1,5 +1,7 @@
 pub mod Laws
 pub mod Steps
+pub mod Gaps
+pub mod Ways
 pub mod Parts
 pub mod Heads
 pub mod Accept
@@ -25,8 +27,10 @@ pub mod Walk
 pub mod Reach
 pub mod Blame
 pub mod Promised
+pub mod Rules
 pub mod Good
 pub mod Places
+pub mod GapCases
 pub mod Asked
 pub mod Addresses
 pub mod Names

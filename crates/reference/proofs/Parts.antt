@@ -1,21 +1,23 @@
 -- Each part of a reference is read right. Assumes nothing.
-use Prim.Native.Nat.{ℕ, _+_, _-_, _%_, _<_, _≤_, _^_}
-use mathlib.Core.Path.{_≡_, refl, sym, ap, _∙_}
+use Prim.Native.Nat.{ℕ, _+_, _-_, _<_, _≤_, _^_}
+use mathlib.Core.Path.{_≡_, refl, sym, ap, _∙_, subst}
 use mathlib.Core.Bool.{not}
-use mathlib.Core.List.{List, [], _∷_, append-nil, append-assoc, map}
+use mathlib.Core.List.{List, [], _∷_, _++_, append-nil, append-assoc, map}
 use mathlib.Core.Logic.{_≢_}
 use native.Mathlib.Omega.{arith}
 use lib.ListN.{length, length-append}
 use lib.Dec.{T, eqb, eqb→eq, eqb-refl, le→leb, lit<, T-not}
-use Rattle.octets.specs.Octets.{Octets, Each, octets, joined}
+use Rattle.octets.specs.Octets.{Octets, Each, be, octets, joined}
+use Rattle.reference.specs.declared.TypeIdRule.{TypeIdRule}
 use Rattle.reference.specs.Meaning.{Tap, Location, Extra, Biop, Address, Name, Service, Lite, Profile, biop, lite, opaque, Reference}
-use Rattle.reference.specs.Layout.{layoutTap, GoodTap, layoutLocation, GoodLocation, layoutBinder, GoodBinder, layoutExtra, GoodExtra, layoutBiop, GoodBiop, layoutAddress, GoodAddress, layoutNamed, GoodNamed, layoutName, GoodName, layoutService, GoodService, layoutLite, GoodLite, tagOf, dataOf, layoutProfile, GoodData, GoodProfile, layoutOf, WellFormed, tagged, tag-biop, tag-lite, tag-location, tag-binder, tag-service}
-use Rattle.reference.specs.Places.{place-reference-fixed, place-profile-count, place-profile-header, place-biop-fixed, place-location-header, place-location-fixed, place-location-leftover, place-binder-header, place-tap-count, place-tap-fixed, place-binder-leftover, place-biop-extra, place-biop-leftover, place-lite-fixed, place-service-header, place-address-length, place-address, place-name-count, place-id-length, place-kind-length, place-context-length, place-service-leftover, place-lite-extra, place-lite-leftover, place-biop-order, place-location-tag, place-binder-tag, place-lite-order, place-service-tag, place-type-id-length, place-biop-components, place-lite-components, place-address-size}
+use Rattle.reference.specs.Layout.{layoutTap, GoodTap, layoutLocation, GoodLocation, layoutBinder, GoodBinder, layoutExtra, GoodExtra, layoutBiop, GoodBiop, layoutAddress, GoodAddress, layoutNamed, GoodNamed, layoutName, GoodName, layoutService, GoodService, layoutLite, GoodLite, tagOf, dataOf, layoutProfile, GoodData, GoodProfile, Allowed, allowed, gapLength, gap, layoutOf, WellFormed, tagged, tag-biop, tag-lite, tag-location, tag-binder, tag-service}
+use Rattle.reference.specs.Places.{place-reference-fixed, place-profile-count, place-profile-header, place-biop-fixed, place-location-header, place-location-fixed, place-location-leftover, place-binder-header, place-tap-count, place-tap-fixed, place-binder-leftover, place-biop-extra, place-biop-leftover, place-lite-fixed, place-service-header, place-address-length, place-address, place-name-count, place-id-length, place-kind-length, place-context-length, place-service-leftover, place-lite-extra, place-lite-leftover, place-biop-order, place-location-tag, place-binder-tag, place-lite-order, place-service-tag, place-type-id-length, place-biop-components, place-lite-components, place-address-size, place-gap-value, place-gap}
 use Rattle.reference.specs.Steps.{Reader, done, need, number, checked, ending, many, after}
-use Rattle.reference.specs.Reader.{readCount, readRun, readNamed, component, readFixed, readExtra, readTap, readLocation, readObjectLocation, readBinder, readBiop, readAddress, readName, readContext, readService, readLite, readBody, readProfile, readReference}
+use Rattle.reference.specs.Reader.{readCount, readRun, readNamed, component, readFixed, readExtra, readTap, readLocation, readObjectLocation, readBinder, readBiop, readAddress, readName, readContext, readService, readLite, readBody, readProfile, readGap, readReference}
 use Rattle.reference.specs.Heads.{ServiceHead, readServiceHead}
 use Rattle.octets.proofs.Inverse.{length-octets}
-use Rattle.reference.proofs.Laws.{Reads, Fills, reads-done, reads-need, reads-more, reads-number, reads-checked, reads-run, reads-equal, reads-atleast, reads-within, reads-inside, fills-ending, reads-after, reads-many, fills-after, fills-as, fills-last, fills-choose, fills-rest, fills-same, reads-good, reads-lay, fills-lay}
+use Rattle.reference.proofs.Gaps.{test-allowed, allowed-test, gap-small, gap-written}
+use Rattle.reference.proofs.Laws.{Reads, Fills, reads-done, reads-need, reads-more, reads-number, reads-checked, reads-run, reads-equal, reads-atleast, reads-within, reads-inside, fills-ending, reads-after, reads-many, fills-after, fills-as, fills-last, fills-choose, fills-rest, fills-same, reads-good, reads-laid, reads-lay, fills-lay}
 use Rattle.reference.proofs.Steps.{followed-followed, guarded-then, passed-then}
 
 -- ---- what the parts share
@@ -295,15 +297,28 @@ profile-reads =
 pub reference-path : {r : Reference} {i : List ℕ} {l : List Profile} → r .typeId ≡ i → r .profiles ≡ l → r ≡ record { typeId = i; profiles = l }
 reference-path p q = λ x. record { typeId = p x; profiles = q x }
 
-pub reference-reads : Reads 0 readReference layoutOf WellFormed
+-- the gap, told by the number that it holds
+gap-reads : (rule : TypeIdRule) (n : ℕ) → Reads 0 (readGap rule n) (λ v. gap rule n) (λ v. v ≡ be (gap rule n))
+unfolding readGap
+gap-reads rule n =
+    let k = gapLength rule n in
+    reads-lay (λ v. gap rule n) (λ v. append-nil (octets k (be (gap rule n))) ∙ gap-written rule n)
+    (reads-need k place-gap
+    (reads-equal k (be (gap rule n)) 3 place-gap-value (le→leb k k (omega arith)) (gap-small rule n) λ v e.
+    reads-more 0 (k - k) (le→leb 0 (k - k) (omega arith)) (λ m g. omega arith) (reads-done v (e, sym e) (λ m g. g .0 ∙ g .1))))
+
+pub reference-reads : (rule : TypeIdRule) → Reads 0 (readReference rule) (layoutOf rule) (WellFormed rule)
 unfolding readReference layoutOf
-reference-reads =
-    reads-lay layoutOf (λ r. simp append-nil)
+reference-reads rule =
+    reads-lay (layoutOf rule) (λ r. simp append-nil)
     (reads-need 8 place-reference-fixed
-    (reads-checked 4 (λ n. eqb (n % 4) 0) 4 place-type-id-length (λ r. length (r .typeId)) tt (λ r g. g .typeId) (λ r g. rw (g .multiple) tt) λ n hn t.
-    let e : n % 4 ≡ 0 = eqb→eq (n % 4) 0 t in
+    (reads-checked 4 (allowed rule) 4 place-type-id-length (λ r. length (r .typeId)) tt (λ r g. g .typeId) (λ r g. allowed-test rule (length (r .typeId)) (g .allowed)) λ n hn t.
+    let al : Allowed rule n = test-allowed rule n t in
     reads-more 0 4 tt (λ r _. simp (length-append, length-octets) (omega arith))
     (reads-run n (λ r. r .typeId) (λ r g. g .1) (λ r g. g .0 .octets) λ i hi oi.
-    reads-after (λ r. length (r .profiles)) (count-reads 4 place-profile-count) (λ r g. g .0 .0 .count) λ c hc.
-    reads-after (λ r. r .profiles) (reads-many profile-reads c) (λ r g. (g .0 .0 .0 .profiles, g .1)) λ l hl.
-    reads-done _ (search arith) (λ r g. search reference-path))))
+    let al′ : Allowed rule (length i) = subst (Allowed rule) (sym hi) al in
+    reads-laid _ (λ r g. ap (λ (k : ℕ). gap rule k ++ (octets 4 (length (r .profiles)) ++ (joined (map layoutProfile (r .profiles)) ++ []))) (sym (g .0 .1)))
+    (reads-after (λ r. be (gap rule n)) (gap-reads rule n) (λ r g. refl) λ v hv.
+    reads-after (λ r. length (r .profiles)) (count-reads 4 place-profile-count) (λ r g. g .0 .0 .0 .count) λ c hc.
+    reads-after (λ r. r .profiles) (reads-many profile-reads c) (λ r g. (g .0 .0 .0 .0 .profiles, g .1)) λ l hl.
+    reads-done _ (search arith) (λ r g. search reference-path)))))

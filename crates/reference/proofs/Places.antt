@@ -5,9 +5,10 @@ use mathlib.Core.Path.{_≡_, refl}
 use mathlib.Core.List.{List, [], _∷_, _++_, map}
 use lib.ListN.{length, replicate}
 use Rattle.octets.specs.Octets.{be, joined}
+use Rattle.reference.specs.declared.TypeIdRule.the-variants.{Multiple}
 use Rattle.reference.specs.Meaning.{Reference}
 use Rattle.reference.specs.Steps.{Answer, ok, refused, done, need, number, checked, run, rest, choose, ending, within, fits, apart, many, after}
-use Rattle.reference.specs.Reader.{readCount, readRun, readNamed, component, readFixed, readExtra, readTap, readLocation, readObjectLocation, readBinder, readBiop, readAddress, readName, readContext, readService, readLite, readBody, readProfile, readReference, readLeading, readWhole}
+use Rattle.reference.specs.Reader.{readCount, readRun, readNamed, component, readFixed, readExtra, readTap, readLocation, readObjectLocation, readBinder, readBiop, readAddress, readName, readContext, readService, readLite, readBody, readProfile, readGap, readReference, readLeading, readWhole}
 
 -- accepted with so many octets, or the refusal
 pub data Out : Type 0 where
@@ -191,10 +192,10 @@ slices =
     ∷ (replicate 65536 0, not 6 0 65536 65535 0)
     ∷ []
 
-pub leading-places : map (λ q. out (readLeading (q .0))) (references ++ biops ++ seconds ++ lites ++ tables) ≡ map (λ q. q .1) (references ++ biops ++ seconds ++ lites ++ tables)
-unfolding be done need number checked run rest choose ending within fits apart many after readCount readRun readNamed component readFixed readExtra readTap readLocation readObjectLocation readBinder readBiop readAddress readName readContext readService readLite readBody readProfile readReference readLeading
+pub leading-places : map (λ q. out (readLeading Multiple (q .0))) (references ++ biops ++ seconds ++ lites ++ tables) ≡ map (λ q. q .1) (references ++ biops ++ seconds ++ lites ++ tables)
+unfolding be done need number checked run rest choose ending within fits apart many after readCount readRun readNamed component readFixed readExtra readTap readLocation readObjectLocation readBinder readBiop readAddress readName readContext readService readLite readBody readProfile readGap readReference readLeading
 leading-places = refl
 
-pub whole-places : map (λ q. out (readWhole (q .0))) slices ≡ map (λ q. q .1) slices
-unfolding be done need number checked run rest choose ending within fits apart many after readCount readRun readNamed component readFixed readExtra readTap readLocation readObjectLocation readBinder readBiop readAddress readName readContext readService readLite readBody readProfile readReference readWhole
+pub whole-places : map (λ q. out (readWhole Multiple (q .0))) slices ≡ map (λ q. q .1) slices
+unfolding be done need number checked run rest choose ending within fits apart many after readCount readRun readNamed component readFixed readExtra readTap readLocation readObjectLocation readBinder readBiop readAddress readName readContext readService readLite readBody readProfile readGap readReference readWhole
 whole-places = refl

@@ -7,6 +7,8 @@ use native.Mathlib.Omega.{arith}
 use lib.ListN.{length, take}
 use lib.Seq.{take-all}
 use Rattle.octets.specs.Octets.{Octets}
+use Rattle.reference.specs.declared.TypeIdRule.{TypeIdRule}
+use Rattle.reference.specs.declared.AddressWay.{AddressWay}
 use Rattle.reference.specs.declared.Answer.the-variants.{Count}
 use Rattle.reference.specs.declared.Tables.{Tables}
 use Rattle.reference.specs.Meaning.{Reference}
@@ -71,47 +73,49 @@ same-saying s t t′ h =
       extras = map (extraOf s) (u j .extras);
     }
 
--- tables t with the used entries of m
-module _ (m : Reference) (t : Tables) (h : SameUsed t (tabled (tablesOf m))) where
-  pub used-same : usedOf t ≡ tablesOf m
-  used-same = h .entries ∙ used-tabled (tablesOf m)
+module _ (rule : TypeIdRule) where
+  -- tables t with the used entries of m
+  module _ (m : Reference) (t : Tables) (h : SameUsed t (tabled (tablesOf rule m))) where
+    pub used-same : usedOf t ≡ tablesOf rule m
+    used-same = h .entries ∙ used-tabled (tablesOf rule m)
 
-  pub used-agrees : Agrees t
-  used-agrees = same-agrees t (tabled (tablesOf m)) h (tables-agree m)
+    pub used-agrees : Agrees t
+    used-agrees = same-agrees t (tabled (tablesOf rule m)) h (tables-agree rule m)
 
-  module _ (d : List ℕ) (n : ℕ) (l : Leads d m n) where
-    pub used-shows : contents d (usedOf t) ≡ canon m
-    used-shows = ap (contents d) used-same ∙ tables-show d m n l
+module _ (rule : TypeIdRule) (way : AddressWay) (m : Reference) (t : Tables) (h : SameUsed t (tabled (tablesOf rule m))) where
+  module _ (d : List ℕ) (n : ℕ) (l : Leads rule d m n) where
+    pub used-shows : contents way d (usedOf t) ≡ canon way m
+    used-shows = ap (contents way d) (used-same rule m t h) ∙ tables-show rule way d m n l
 
     -- the constants are put in once
-    pub canon-twice : canon (canon m) ≡ canon m
+    pub canon-twice : canon way (canon way m) ≡ canon way m
     canon-twice =
-        let e = tables-show d m n l in
-        ap canon (sym e) ∙ contents-canon d (tablesOf m) ∙ e
+        let e = tables-show rule way d m n l in
+        ap (canon way) (sym e) ∙ contents-canon way d (tablesOf rule m) ∙ e
 
     module _ (o : Octets d) (small : length d ≤ 65535) (out : List ℕ) (room : n ≤ length out) where
-      pub used-given-back : (written t d out ≡ Count n) × (GivesBack d m n out (leaves t d out))
+      pub used-given-back : (written rule t d out ≡ Count n) × (GivesBack rule way d m n out (leaves rule way t d out))
       used-given-back =
-          let w = only-used-matter t (tabled (tablesOf m)) h d out in
-          let (a, g) = part-given-back d o m n (accepted d o small m n l) out room in
-          (w .answers ∙ a, subst (λ (x : List ℕ). GivesBack d m n out x) (sym (w .leave)) g)
+          let w = only-used-matter rule way t (tabled (tablesOf rule m)) h d out in
+          let (a, g) = part-given-back rule way d o m n (accepted rule d o small m n l) out room in
+          (w .answers ∙ a, subst (λ (x : List ℕ). GivesBack rule way d m n out x) (sym (w .leave)) g)
 
       -- the copy: the layout of the meaning with its constants
-      copied : take n (leaves t d out) ≡ layoutOf (canon m)
+      copied : take n (leaves rule way t d out) ≡ layoutOf rule (canon way m)
       unfolding imageOf
-      copied = accepted-writing-puts t d out n (used-given-back .0) .front ∙ ap layoutOf used-shows
+      copied = accepted-writing-puts rule way t d out n (used-given-back .0) .front ∙ ap (layoutOf rule) used-shows
 
-      pub copy-leads : (Leads (take n (leaves t d out)) (canon m) n) × (n ≡ length (take n (leaves t d out)))
+      pub copy-leads : (Leads rule (take n (leaves rule way t d out)) (canon way m) n) × (n ≡ length (take n (leaves rule way t d out)))
       copy-leads =
-          let x = layoutOf (canon m) in
-          let lx : length x ≡ n = length-same m ∙ size-of d m n l .0 in
-          subst (λ (y : List ℕ). (Leads y (canon m) n) × (n ≡ length y)) (sym copied)
-          (record { inside = omega arith; part = take-all n x (omega arith); formed = canon-formed m (l .formed); room = canon-room m (l .room) }, sym lx)
+          let x = layoutOf rule (canon way m) in
+          let lx : length x ≡ n = length-same rule way m ∙ size-of rule d m n l .0 in
+          subst (λ (y : List ℕ). (Leads rule y (canon way m) n) × (n ≡ length y)) (sym copied)
+          (record { inside = omega arith; part = take-all n x (omega arith); formed = canon-formed rule way m (l .formed); room = canon-room way m (l .room) }, sym lx)
 
-      pub copy-octets : Octets (take n (leaves t d out))
-      copy-octets = subst Octets (sym copied) (layout-octets (canon m) (canon-formed m (l .formed)))
+      pub copy-octets : Octets (take n (leaves rule way t d out))
+      copy-octets = subst Octets (sym copied) (layout-octets rule (canon way m) (canon-formed rule way m (l .formed)))
 
-      pub copy-read : readWhole (take n (leaves t d out)) ≡ ok (canon m) n
+      pub copy-read : readWhole rule (take n (leaves rule way t d out)) ≡ ok (canon way m) n
       copy-read =
           let e = copy-leads .1 in
-          whole (take n (leaves t d out)) copy-octets (omega (arith, l .inside)) (canon m) n .1 copy-leads
+          whole rule (take n (leaves rule way t d out)) copy-octets (omega (arith, l .inside)) (canon way m) n .1 copy-leads

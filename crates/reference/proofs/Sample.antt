@@ -4,6 +4,8 @@ use Prim.Native.Nat.{ℕ}
 use mathlib.Core.Path.{_≡_, refl}
 use mathlib.Core.List.{List, [], _∷_, _++_}
 use lib.ListN.{replicate}
+use Rattle.reference.specs.declared.TypeIdRule.the-variants.{Multiple}
+use Rattle.reference.specs.declared.AddressWay.the-variants.{Constants}
 use Rattle.reference.specs.declared.View.{View}
 use Rattle.reference.specs.declared.TaggedProfile.the-variants as Sort
 use Rattle.reference.specs.declared.Tables.{Tables}
@@ -11,7 +13,7 @@ use Rattle.reference.specs.declared.Answer.the-variants.{Count}
 use Rattle.octets.specs.Octets.{be, octets, splice}
 use Rattle.reference.specs.Layout.{layoutTap, layoutLocation, layoutBinder, layoutExtra, layoutBiop, layoutAddress, layoutService, layoutLite, tagOf, dataOf, layoutProfile, layoutOf, layoutNamed}
 use Rattle.reference.specs.Steps.{done, need, number, checked, run, rest, choose, ending, within, fits, apart, many, after}
-use Rattle.reference.specs.Reader.{readCount, readRun, readNamed, component, readFixed, readExtra, readTap, readLocation, readObjectLocation, readBinder, readBiop, readAddress, readName, readContext, readService, readLite, readBody, readProfile, readReference, readLeading, answered}
+use Rattle.reference.specs.Reader.{readCount, readRun, readNamed, component, readFixed, readExtra, readTap, readLocation, readObjectLocation, readBinder, readBiop, readAddress, readName, readContext, readService, readLite, readBody, readProfile, readGap, readReference, readLeading, answered}
 use Rattle.reference.specs.Tabled.{filled, tabled, noTables}
 use Rattle.reference.specs.Checks.{test, both, each}
 use Rattle.reference.specs.Writer.{imageOf, sizeOf, countsCheck, viewsCheck, measureCheck, writeCheck, leaves}
@@ -47,11 +49,11 @@ seen =
       extras = record { tag = 0x21222324; «data» = v 59 1 } ∷ record { tag = 0x41424344; «data» = v 126 2 } ∷ [];
     })
 
-pub sample-seen : answered (readLeading sample) ≡ record { answer = Count 137; tables = seen }
-unfolding filled be done need number checked run rest choose ending within fits apart many after readCount readRun readNamed component readFixed readExtra readTap readLocation readObjectLocation readBinder readBiop readAddress readName readContext readService readLite readBody readProfile readReference readLeading layoutProfile layoutLocation octets dataOf layoutBinder layoutBiop layoutTap layoutExtra layoutNamed layoutLite layoutService layoutAddress
+pub sample-seen : answered Multiple (readLeading Multiple sample) ≡ record { answer = Count 137; tables = seen }
+unfolding filled be done need number checked run rest choose ending within fits apart many after readCount readRun readNamed component readFixed readExtra readTap readLocation readObjectLocation readBinder readBiop readAddress readName readContext readService readLite readBody readProfile readGap readReference readLeading layoutProfile layoutLocation octets dataOf layoutBinder layoutBiop layoutTap layoutExtra layoutNamed layoutLite layoutService layoutAddress
 sample-seen = refl
 
-pub sample-back : leaves seen sample (replicate 138 0xA5) ≡ sample ++ (0xA5 ∷ [])
+pub sample-back : leaves Multiple Constants seen sample (replicate 138 0xA5) ≡ sample ++ (0xA5 ∷ [])
 unfolding octets splice filled layoutTap layoutLocation layoutBinder layoutExtra layoutBiop layoutAddress layoutNamed layoutService layoutLite tagOf dataOf layoutProfile layoutOf imageOf leaves test both each countsCheck viewsCheck sizeOf measureCheck writeCheck
 sample-back = refl
 

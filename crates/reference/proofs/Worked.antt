@@ -3,10 +3,10 @@ use mathlib.Core.Path.{_≡_, refl}
 use mathlib.Core.List.{map}
 use Rattle.octets.specs.Octets.{be}
 use Rattle.reference.specs.Steps.{done, need, number, checked, run, rest, choose, ending, within, fits, apart, many, after}
-use Rattle.reference.specs.Reader.{readCount, readRun, readNamed, component, readFixed, readExtra, readTap, readLocation, readObjectLocation, readBinder, readBiop, readAddress, readName, readContext, readService, readLite, readBody, readProfile, readReference, readLeading}
+use Rattle.reference.specs.Reader.{readCount, readRun, readNamed, component, readFixed, readExtra, readTap, readLocation, readObjectLocation, readBinder, readBiop, readAddress, readName, readContext, readService, readLite, readBody, readProfile, readGap, readReference, readLeading}
 use Rattle.reference.specs.Questions.{kindNumbered, kindOf, tapNumbersOf}
 use Rattle.reference.specs.Worked.{reply, cases}
 
 pub worked : map (λ q. reply (q .0)) cases ≡ map (λ q. q .1) cases
-unfolding be done need number checked run rest choose ending within fits apart many after readCount readRun readNamed component readFixed readExtra readTap readLocation readObjectLocation readBinder readBiop readAddress readName readContext readService readLite readBody readProfile readReference readLeading kindNumbered kindOf tapNumbersOf
+unfolding be done need number checked run rest choose ending within fits apart many after readCount readRun readNamed component readFixed readExtra readTap readLocation readObjectLocation readBinder readBiop readAddress readName readContext readService readLite readBody readProfile readGap readReference readLeading kindNumbered kindOf tapNumbersOf
 worked = refl

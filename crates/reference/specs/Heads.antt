@@ -1,13 +1,14 @@
 -- The readers cut where code that stores what it meets must stop: what stands before the first tap, name or profile, and what follows it. Nobody has to
 -- believe them: `proofs/Heads` shows that head and rest together are the reader of the part. Assumes nothing.
-use Prim.Native.Nat.{ℕ, _+_, _-_, _%_}
+use Prim.Native.Nat.{ℕ, _+_, _-_}
 use mathlib.Core.List.{List}
 use lib.Dec.{eqb}
+use Rattle.reference.specs.declared.TypeIdRule.{TypeIdRule}
 use Rattle.reference.specs.Meaning.{Location, Biop, Address, Lite}
-use Rattle.reference.specs.Layout.{tag-binder, tag-service}
+use Rattle.reference.specs.Layout.{allowed, tag-binder, tag-service}
 use Rattle.reference.specs.Places.{place-reference-fixed, place-profile-count, place-profile-header, place-binder-header, place-tap-count, place-service-header, place-address-length, place-name-count, place-binder-tag, place-service-tag, place-type-id-length, place-address-size}
 use Rattle.reference.specs.Steps.{ok, Reader, done, need, number, checked, run, within, fits, many, after}
-use Rattle.reference.specs.Reader.{readCount, readTaps, readObjectLocation, readBiopFixed, readBiopExtras, readAddress, readName, readContext, readLiteFixed, readLiteExtras}
+use Rattle.reference.specs.Reader.{readGap, readCount, readTaps, readObjectLocation, readBiopFixed, readBiopExtras, readAddress, readName, readContext, readLiteFixed, readLiteExtras}
 
 -- ---- a component that is left open
 
@@ -106,10 +107,11 @@ pub record Head : Type 0 where
   pub typeId : List ℕ
   pub count : ℕ
 
-unfoldable pub readHead : Reader Head
-readHead =
+unfoldable pub readHead : TypeIdRule → Reader Head
+readHead rule =
     need (4 + 4) place-reference-fixed
-    (checked 4 (λ n. eqb (n % 4) 0) 4 place-type-id-length λ n.
+    (checked 4 (allowed rule) 4 place-type-id-length λ n.
     run n λ i.
+    after (readGap rule n) λ g.
     after (readCount 4 place-profile-count) λ c.
     done (record { typeId = i; count = c }))

@@ -1,20 +1,24 @@
 -- The statements of the promises: what holds of an accepted reading's tables, of writing them back, of reading what was written, of measuring
 -- against writing (document 01, "Tables" and the three demands). The theorems stand in proofs/. Assumes nothing.
-use Prim.Native.Nat.{ℕ, _-_, _<_, _≤_}
+use Prim.Native.Nat.{ℕ, _-_, _%_, _<_, _≤_}
 use mathlib.Core.Path.{_≡_}
 use mathlib.Core.List.{List}
 use lib.ListN.{length, take, drop, getD, replicate}
-use Rattle.octets.specs.Octets.{Each}
+use Rattle.octets.specs.Octets.{Each, Octets, part, be}
+use Rattle.reference.specs.declared.TypeIdRule.{TypeIdRule}
+use Rattle.reference.specs.declared.TypeIdRule.the-variants.{Multiple, Gap}
+use Rattle.reference.specs.declared.AddressWay.{AddressWay}
 use Rattle.reference.specs.declared.Refusal.{Refusal}
 use Rattle.reference.specs.declared.Tables.{Tables}
 use Rattle.reference.specs.declared.Reading.{Reading}
 use Rattle.reference.specs.declared.Answer.{Answer as Told}
 use Rattle.reference.specs.declared.Answer.the-variants.{Count, Refused}
 use Rattle.reference.specs.Meaning.{Reference}
+use Rattle.reference.specs.Reader.{readLeading, readWhole, answered}
 use Rattle.reference.specs.Used.{tapsIn, namesIn, extrasIn}
 use Rattle.reference.specs.Contents.{contents, said}
 use Rattle.reference.specs.Placed.{tablesOf}
-use Rattle.reference.specs.Standard.{canon, standardOf, Free, Standard}
+use Rattle.reference.specs.Standard.{canon, standardOf, Free, Kept}
 use Rattle.reference.specs.Tabled.{noProfile, noTap, noName, noExtra, usedOf}
 use Rattle.reference.specs.Typed.{Typed}
 use Rattle.reference.specs.Checks.{Among}
@@ -34,12 +38,12 @@ pub record Agrees (t : Tables) : Type 0 where
   pub namesSum : counted namesIn (usedOf t .profiles) ≡ t .«names_used»
   pub extrasSum : counted extrasIn (usedOf t .profiles) ≡ t .«extras_used»
 
--- The tables t of an accepted reading of d that says m: the entries are m's, each view at the offset where its field stands; over d they say m, but
--- for an address's constants; each used count is the number of entries and the sum of the profiles' counts; the arrays have their sizes and the
+-- The tables t of an accepted reading of d that says m: the entries are m's, each view at the offset where its field stands; over d they say m, as
+-- each way writes it: with an address's constants; each used count is the number of entries and the sum of the profiles' counts; the arrays have their sizes and the
 -- numbers their widths; what is unused is zero throughout.
-pub record ShowsFields (d : List ℕ) (m : Reference) (t : Tables) : Type 0 where
-  pub stands : usedOf t ≡ tablesOf m
-  pub shows : contents d (usedOf t) ≡ canon m
+pub record ShowsFields (rule : TypeIdRule) (d : List ℕ) (m : Reference) (t : Tables) : Type 0 where
+  pub stands : usedOf t ≡ tablesOf rule m
+  pub shows : (way : AddressWay) → contents way d (usedOf t) ≡ canon way m
   pub agrees : Agrees t
   pub typed : Typed t
   pub noProfiles : drop (t .«profiles_used») (t .profiles) ≡ replicate (8 - t .«profiles_used») noProfile
@@ -50,18 +54,18 @@ pub record ShowsFields (d : List ℕ) (m : Reference) (t : Tables) : Type 0 wher
 -- Writing the tables of an accepted reading of d that says m, over d itself, into an output that held out and has room, left e: at every index before the
 -- part's length n that is not one of an address's constants the octet is the one that was read; where the constants are standard the part is back
 -- whole; behind the part the output is as before.
-pub record GivesBack (d : List ℕ) (m : Reference) (n : ℕ) (out e : List ℕ) : Type 0 where
-  pub keeps : (i : ℕ) → i < n → Free i (standardOf m) → getD e i 0 ≡ getD d i 0
-  pub constants : Each (λ q. getD e (q .0) 0 ≡ q .1) (standardOf m)
-  pub whole : Each Standard (m .profiles) → take n e ≡ take n d
+pub record GivesBack (rule : TypeIdRule) (way : AddressWay) (d : List ℕ) (m : Reference) (n : ℕ) (out e : List ℕ) : Type 0 where
+  pub keeps : (i : ℕ) → i < n → Free i (standardOf rule way m) → getD e i 0 ≡ getD d i 0
+  pub constants : Each (λ q. getD e (q .0) 0 ≡ q .1) (standardOf rule way m)
+  pub whole : Kept way m → take n e ≡ take n d
   pub behind : drop n e ≡ drop n out
   pub long : length e ≡ length out
 
 -- Reading x answers n, and its tables say over x what t says over s: as document 01 lists contents, and profile by profile.
-pub record ReadsBack (t : Tables) (s : List ℕ) (n : ℕ) (x : List ℕ) (r : Reading) : Type 0 where
+pub record ReadsBack (way : AddressWay) (t : Tables) (s : List ℕ) (n : ℕ) (x : List ℕ) (r : Reading) : Type 0 where
   pub answers : r .answer ≡ Count n
   pub says : said x (r .tables) ≡ said s t
-  pub means : contents x (usedOf (r .tables)) ≡ contents s (usedOf t)
+  pub means : contents way x (usedOf (r .tables)) ≡ contents way s (usedOf t)
 
 -- An accepted writing, which answers n, puts the image at the front of an output that held d, and leaves the octets behind it: then it holds e.
 pub record PutInFront (image d : List ℕ) (n : ℕ) (e : List ℕ) : Type 0 where
@@ -87,8 +91,23 @@ pub record SameUsed (t t′ : Tables) : Type 0 where
   pub entries : usedOf t ≡ usedOf t′
 
 -- They are measured and written alike: what stands in unused entries changes nothing.
-pub record SameWriting (t t′ : Tables) (s d : List ℕ) : Type 0 where
-  pub measures : measured t s ≡ measured t′ s
-  pub answers : written t s d ≡ written t′ s d
-  pub image : imageOf s t ≡ imageOf s t′
-  pub leave : leaves t s d ≡ leaves t′ s d
+pub record SameWriting (rule : TypeIdRule) (way : AddressWay) (t t′ : Tables) (s d : List ℕ) : Type 0 where
+  pub measures : measured rule t s ≡ measured rule t′ s
+  pub answers : written rule t s d ≡ written rule t′ s d
+  pub image : imageOf rule way s t ≡ imageOf rule way s t′
+  pub leave : leaves rule way t s d ≡ leaves rule way t′ s d
+
+-- Where a slice gives its type id a length that is a multiple of 4, both rules read it alike;
+pub record ReadAlike (d : List ℕ) : Type 0 where
+  pub leading : answered Gap (readLeading Gap d) ≡ answered Multiple (readLeading Multiple d)
+  pub whole : answered Gap (readWhole Gap d) ≡ answered Multiple (readWhole Multiple d)
+
+-- and where the type id of tables has such a length, both measure and write them alike.
+pub record WrittenAlike (way : AddressWay) (t : Tables) (s d : List ℕ) : Type 0 where
+  pub measures : measured Gap t s ≡ measured Multiple t s
+  pub answers : written Gap t s d ≡ written Multiple t s d
+  pub leave : leaves Gap way t s d ≡ leaves Multiple way t s d
+
+pub record RulesAgree : Type 0 where
+  pub reading : (d : List ℕ) → Octets d → be (part d 0 4) % 4 ≡ 0 → ReadAlike d
+  pub writing : (way : AddressWay) (t : Tables) (s d : List ℕ) → t .«type_id» .len % 4 ≡ 0 → WrittenAlike way t s d

@@ -1,16 +1,18 @@
 -- What a reading answers, as a function on lists (document 01, "Refusals by number" and "Places"): the readers of each part, put together from
--- steps and nested as 01 nests the parts, with the Rust's checks in their order. 6 comes first; in the whole-slice reading leftover octets come
--- last; then 7. Inside profile data the first two figures count from the start of that data; the third, the offset in the caller's slice, is made by
--- the steps, and no reader names it. Assumes nothing.
-use Prim.Native.Nat.{ℕ, _+_, _-_, _%_}
+-- steps and nested as 01 nests the parts, with the Rust's checks in their order. The rule for type ids (document 02, No. 11) enters in `readReference`
+-- alone. 6 comes first; in the whole-slice reading leftover octets come last; then 7. Inside profile data the first two figures count from the start of
+-- that data; the third, the offset in the caller's slice, is made by the steps, and no reader names it. Assumes nothing.
+use Prim.Native.Nat.{ℕ, _+_, _-_}
 use mathlib.Core.List.{List}
 use lib.Dec.{ltb, leb, eqb}
 use lib.ListN.{length}
+use Rattle.octets.specs.Octets.{be}
+use Rattle.reference.specs.declared.TypeIdRule.{TypeIdRule}
 use Rattle.reference.specs.declared.Answer.the-variants.{Count, Refused}
 use Rattle.reference.specs.declared.Reading.{Reading}
 use Rattle.reference.specs.Meaning.{Tap, Location, Extra, Biop, Address, Name, Service, Lite, Profile, biop, lite, opaque, Reference, tapsOf, namesOf, extrasOf, sum}
-use Rattle.reference.specs.Layout.{tag-biop, tag-lite, tag-location, tag-binder, tag-service}
-use Rattle.reference.specs.Places.{place-reference-fixed, place-profile-count, place-profile-header, place-reference-leftover, place-biop-fixed, place-location-header, place-location-fixed, place-location-leftover, place-binder-header, place-tap-count, place-tap-fixed, place-binder-leftover, place-biop-extra, place-biop-leftover, place-lite-fixed, place-service-header, place-address-length, place-address, place-name-count, place-id-length, place-kind-length, place-context-length, place-service-leftover, place-lite-extra, place-lite-leftover, place-biop-order, place-location-tag, place-binder-tag, place-lite-order, place-service-tag, place-type-id-length, place-biop-components, place-lite-components, place-address-size, place-profiles, place-taps, place-names, place-extras}
+use Rattle.reference.specs.Layout.{allowed, gapLength, gap, tag-biop, tag-lite, tag-location, tag-binder, tag-service}
+use Rattle.reference.specs.Places.{place-reference-fixed, place-profile-count, place-profile-header, place-reference-leftover, place-biop-fixed, place-location-header, place-location-fixed, place-location-leftover, place-binder-header, place-tap-count, place-tap-fixed, place-binder-leftover, place-biop-extra, place-biop-leftover, place-lite-fixed, place-service-header, place-address-length, place-address, place-name-count, place-id-length, place-kind-length, place-context-length, place-service-leftover, place-lite-extra, place-lite-leftover, place-biop-order, place-location-tag, place-binder-tag, place-lite-order, place-service-tag, place-type-id-length, place-biop-components, place-lite-components, place-address-size, place-profiles, place-taps, place-names, place-extras, place-gap-value, place-gap}
 use Rattle.reference.specs.Refusals.{refusal}
 use Rattle.reference.specs.Steps.{Answer, ok, refused, Reader, pick, followed, done, need, number, checked, run, rest, choose, ending, within, fits, apart, many, after}
 use Rattle.reference.specs.Tabled.{tabled, noTables}
@@ -128,11 +130,18 @@ readBody t =
 unfoldable pub readProfile : Reader Profile
 readProfile = need (4 + 4) place-profile-header (number 4 λ t. number 4 λ n. fits n (apart n (readBody t)))
 
-unfoldable pub readReference : Reader Reference
-readReference =
+-- ---- a reference
+
+-- the gap behind a type id of n octets is one field: it must be there, or 1, and hold the number that octets FF write, or 3
+unfoldable pub readGap : TypeIdRule → ℕ → Reader ℕ
+readGap rule n = need (gapLength rule n) place-gap (checked (gapLength rule n) (λ v. eqb v (be (gap rule n))) 3 place-gap-value λ v. done v)
+
+unfoldable pub readReference : TypeIdRule → Reader Reference
+readReference rule =
     need (4 + 4) place-reference-fixed
-    (checked 4 (λ n. eqb (n % 4) 0) 4 place-type-id-length λ n.
+    (checked 4 (allowed rule) 4 place-type-id-length λ n.
     run n λ i.
+    after (readGap rule n) λ g.
     after (readCount 4 place-profile-count) λ c.
     after (many c readProfile) λ l.
     done (record { typeId = i; profiles = l }))
@@ -156,15 +165,15 @@ small d x = pick (ltb 65535 (length d)) (refused (refusal 6 0 (length d) 65535))
 abbrev pub sized : List ℕ → Reader Reference → Answer Reference
 sized d r = small d (followed (r d 0 (length d)) roomy)
 
--- a leading reference, and a whole slice
-unfoldable pub readLeading : List ℕ → Answer Reference
-readLeading d = sized d readReference
+-- a leading reference, and a whole slice, under the rule
+unfoldable pub readLeading : TypeIdRule → List ℕ → Answer Reference
+readLeading rule d = sized d (readReference rule)
 
-unfoldable pub readWhole : List ℕ → Answer Reference
-readWhole d = sized d (ending place-reference-leftover readReference)
+unfoldable pub readWhole : TypeIdRule → List ℕ → Answer Reference
+readWhole rule d = sized d (ending place-reference-leftover (readReference rule))
 
 -- ---- what a reading answers: its tables, or the empty ones
 
-abbrev pub answered : Answer Reference → Reading
-answered (ok m n) = record { answer = Count n; tables = tabled (tablesOf m) }
-answered (refused x) = record { answer = Refused x; tables = noTables }
+abbrev pub answered : TypeIdRule → Answer Reference → Reading
+answered rule (ok m n) = record { answer = Count n; tables = tabled (tablesOf rule m) }
+answered rule (refused x) = record { answer = Refused x; tables = noTables }

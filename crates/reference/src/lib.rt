@@ -2,8 +2,21 @@
 // constants, and one constructor for each sort of refusal. What a reader must believe of them stands in specs/.
 ghost use mathlib.Core.Path.{_≡_};
 ghost use Prim.Native.Nat.{_+_, _≤_};
+ghost use Rattle.reference.specs.Layout.{gapLength, allowed};
 ghost use Rattle.reference.specs.Refusals.{refusal, cutAt, leftAt, longAt, wrongAt, shifted};
 ghost use Rattle.reference.specs.Tabled.{noTables};
+
+// Which type ids a reference may have (document 02, No. 11). Rule 1: of a length that is a multiple of 4. Rule 2: of any length, with a gap of octets FF
+// behind it up to the next multiple of 4.
+pub enum TypeIdRule {
+    Multiple,
+    Gap,
+}
+
+// How an address is written: with the constants of its kind.
+pub enum AddressWay {
+    Constants,
+}
 
 // A run of octets in the caller's slice.
 pub struct View {
@@ -247,6 +260,11 @@ pub const PLACE_NAMES: u8 = 42;
 
 pub const PLACE_EXTRAS: u8 = 43;
 
+// The gap behind a type id: its octets, and one that is cut off.
+pub const PLACE_GAP_VALUE: u8 = 46;
+
+pub const PLACE_GAP: u8 = 47;
+
 // Tables that hold nothing: zero throughout.
 pub fn no_tables() -> Tables
     ensures { λ r. ⌜ r ≡ noTables ⌝ }
@@ -421,5 +439,25 @@ pub fn view_of(base: usize, at: usize, len: usize) -> View
     View {
         at: (base + at) as u32,
         len: len as u32,
+    }
+}
+
+// How many octets FF the rule puts behind a type id of n octets.
+pub fn gap_length(rule: TypeIdRule, n: usize) -> usize
+    ensures { λ r. ⌜ (r ≡ gapLength rule n) × (r ≤ 3) ⌝ }
+{
+    match rule {
+        TypeIdRule::Multiple => 0,
+        TypeIdRule::Gap => (4 - n % 4) % 4,
+    }
+}
+
+// The rule allows a type id of n octets.
+pub fn allows(rule: TypeIdRule, n: usize) -> bool
+    ensures { λ r. ⌜ r ≡ allowed rule n ⌝ }
+{
+    match rule {
+        TypeIdRule::Multiple => n % 4 == 0,
+        TypeIdRule::Gap => true,
     }
 }

@@ -13,7 +13,7 @@ use Rattle.text.specs.Text.{decimal}
 use Rattle.text.specs.Written.{Written}
 use Rattle.reference.specs.Meaning.{Reference}
 use Rattle.reference.specs.Steps.{Answer, ok, refused}
-use Rattle.reference.specs.Reader.{readWhole}
+use Rattle.reference.specs.Today.{readWhole}
 use Rattle.records.specs.declared.Record.the-variants.{Got}
 use Rattle.rows.specs.declared.Rows.{Rows}
 use Rattle.records.specs.Records.{recordAt}

@@ -8,7 +8,7 @@ use lib.ListN.{length, take}
 use Rattle.text.specs.Text.{ascii, decimal}
 use Rattle.reference.specs.Meaning.{Reference}
 use Rattle.reference.specs.Steps.{Answer, ok, refused}
-use Rattle.reference.specs.Reader.{readWhole}
+use Rattle.reference.specs.Today.{readWhole}
 use Rattle.reference.specs.declared.Refusal.{Refusal}
 use Rattle.reference.specs.declared.ObjectKind.{ObjectKind}
 use Rattle.reference.specs.Questions.{kindOf}

@@ -2,7 +2,7 @@
 ghost use Prim.Native.Nat.{_+_, _≤_, _<_};
 ghost use lib.ListN.{length};
 ghost use Rattle.text.specs.Written.{Written};
-ghost use Rattle.reference.specs.Reader.{readWhole};
+ghost use Rattle.reference.specs.Today.{readWhole};
 ghost use Rattle.rows.specs.Rows.{heading, rowOf, endText, brokenText, foundText, whereText, refusedText, answerText, Listed};
 ghost use Rattle.table.specs.Flat.{Lent};
 use lines::put_kind;

@@ -7,6 +7,7 @@ use native.Mathlib.Nat.{min-le-left}
 use native.Mathlib.Omega.{arith}
 use borrow.Author.Tests.{lt-ltb}
 use lib.ListN.{length, getD, length-map, List·getD-append, List·getD-map}
+use Rattle.reference.specs.declared.TypeIdRule.{TypeIdRule}
 use Rattle.octets.specs.Octets.{Each, part, splice}
 use Rattle.reference.specs.declared.Tap.{Tap}
 use Rattle.reference.specs.declared.TaggedProfile.{TaggedProfile}
@@ -75,17 +76,18 @@ module _ {E F : Type 0} (g : Region E) (f : List ℕ → ℕ → Bool) (near : (
       ∙ List·getD-map numbers xs i z in
       sym (near e (entry g i)) ∙ ap (λ (r : List ℕ). f r 0) row ∙ pass i k
 
-pub read-exact : (t : List ℕ) → Lent t → (m : Reference) → WellFormed m → Room m → exact (referenceFiled t m) ≡ true
-unfolding exact splice
-read-exact t l m w room =
-    let e = referenceFiled t m in
-    let r = read-files t l m room in
-    let s = sums m in
-    let y = tables-typed m w room in
-    let ps = tablesOf m .profiles in
-    let ts = tablesOf m .taps in
-    and-both
-    (stored-pass profileRegion profileExact profile-near (λ p. bodyNumbers (p .body)) e _ noProfile ps (r .profiles) (omega (arith, s .profiles, room .profiles))
-    (λ i k. body-exact (getD ps i noProfile .body) (filled-get EntryFits 8 noProfile ps i (y .profiles) k)) (s .profiles))
-    (stored-pass tapRegion tapExact tap-near tapNumbers e _ noTap ts (r .taps) (omega (arith, s .taps, room .taps))
-    (λ i k. tap-exact (getD ts i noTap) (filled-get TapFits 36 noTap ts i (y .taps) k)) (s .taps))
+module _ (rule : TypeIdRule) where
+  pub read-exact : (t : List ℕ) → Lent t → (m : Reference) → WellFormed rule m → Room m → exact (referenceFiled rule t m) ≡ true
+  unfolding exact splice
+  read-exact t l m w room =
+      let e = referenceFiled rule t m in
+      let r = read-files rule t l m room in
+      let s = sums rule m in
+      let y = tables-typed rule m w room in
+      let ps = tablesOf rule m .profiles in
+      let ts = tablesOf rule m .taps in
+      and-both
+      (stored-pass profileRegion profileExact profile-near (λ p. bodyNumbers (p .body)) e _ noProfile ps (r .profiles) (omega (arith, s .profiles, room .profiles))
+      (λ i k. body-exact (getD ps i noProfile .body) (filled-get EntryFits 8 noProfile ps i (y .profiles) k)) (s .profiles))
+      (stored-pass tapRegion tapExact tap-near tapNumbers e _ noTap ts (r .taps) (omega (arith, s .taps, room .taps))
+      (λ i k. tap-exact (getD ts i noTap) (filled-get TapFits 36 noTap ts i (y .taps) k)) (s .taps))

@@ -197,9 +197,9 @@ module _ (n : ℕ) (few : n ≤ 65535) where
         (fixed-ends frontFixed (record { told = view-ends 0 (viewFrom t 0) }))))))))) .told
         ∙ ap passing (both-more _ _ _ ∙ both-more _ _ _ ∙ both-more _ _ _ ∙ ap (λ (c : Check). both (viewCheck n 0 (viewFrom t 0)) (both (each (entryViews n) (listed np (profileOfTable t))) (both (each (tapViews n) (listed nt (tapOfTable t))) (both c (each (extraViews n) (listed ne (extraOfTable t))))))) (names-views t n nn))
 
-    pub surveyed : Surveyed n t (tableSeen n t)
+    pub surveyed : tableSeen n t .octets ≤ 500 * 0x200000000 → Surveyed n t (tableSeen n t)
     unfolding exact viewsCheck tablesFrom
-    surveyed =
+    surveyed b =
         let ps = sym (used-profiles t) in
         let ts = sym (used-taps t) in
         let ns = sym (used-names t) in
@@ -209,6 +209,7 @@ module _ (n : ℕ) (few : n ≤ 65535) where
           names = counts (λ s. s .names) namesIn (λ a b. refl) (λ s k. refl) (λ k. refl) (λ k. refl) (λ k. by-sort k (λ s. s .names) namesIn refl refl refl) ∙ ap (sum (λ p. namesIn (p .body))) ps;
           extras = counts (λ s. s .extras) extrasIn (λ a b. refl) (λ s k. refl) (λ k. refl) (λ k. refl) (λ k. by-sort k (λ s. s .extras) extrasIn refl refl refl) ∙ ap (sum (λ p. extrasIn (p .body))) ps;
           octets = seen-octets ∙ (λ j. 8 + getD t 1 0 + sum entrySize (ps j) + sum tapSize (ts j) + sum nameSize (ns j) + sum extraSize (es j));
+          bounded = b;
           fields = seen-fields;
           ends = seen-ends ∙ (λ j. passing (both (viewCheck n 0 (viewFrom t 0)) (both (each (entryViews n) (ps j)) (both (each (tapViews n) (ts j)) (both (each (nameViews n) (ns j)) (each (extraViews n) (es j)))))));
         }

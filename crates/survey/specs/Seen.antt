@@ -139,11 +139,12 @@ Grown k a s =
     (s .taps ≤ a .taps + k * 0x200000000) × (s .names ≤ a .names + k * 0x200000000) × (s .extras ≤ a .extras + k * 0x200000000)
     × (s .octets ≤ a .octets + k * 0x200000000)
 
--- the whole table: the sums of the used profiles' counts, the octets of the image's parts, whether all fields fit and all views end within n octets
+-- the whole table: the sums of the used profiles' counts, the octets of the image's parts, far from 2^64, whether all fields fit and all views end within n octets
 pub record Surveyed (n : ℕ) (t : List ℕ) (r : Survey) : Type 0 where
   pub taps : r .taps ≡ counted tapsIn (usedIn t .profiles)
   pub names : r .names ≡ counted namesIn (usedIn t .profiles)
   pub extras : r .extras ≡ counted extrasIn (usedIn t .profiles)
   pub octets : r .octets ≡ octetsIn (usedIn t)
+  pub bounded : r .octets ≤ 500 * 0x200000000
   pub fields : holds (r .fields) ≡ exact t
   pub ends : holds (r .ends) ≡ passing (viewsCheck n (usedIn t))

@@ -367,7 +367,7 @@ fn see_names(t: &[u32], n: usize, before: Survey) -> Survey
 
 fn see_extras(t: &[u32], n: usize, before: Survey) -> Survey
     requires { ⌜ Lent (now t) × (n ≤ 65535) × Bounded 500 before ⌝ }
-    ensures { λ r. ⌜ r ≡ extrasSeen n (now (t .entry)) before ⌝ }
+    ensures { λ r. ⌜ (r ≡ extrasSeen n (now (t .entry)) before) × Grown 65 before r ⌝ }
 {
     let used = used_at(t, EXTRAS_USED, EXTRAS);
     let all = with_fixed(before, EXTRA_FIXED * used);

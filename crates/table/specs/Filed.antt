@@ -5,6 +5,7 @@ use mathlib.Core.Path.{_≡_}
 use mathlib.Core.List.{List, [], _∷_, _++_, map}
 use lib.ListN.{length, take, drop}
 use Rattle.octets.specs.Octets.{splice}
+use Rattle.reference.specs.declared.TypeIdRule.{TypeIdRule}
 use Rattle.reference.specs.declared.Tap.{Tap}
 use Rattle.reference.specs.declared.NameComponent.{NameComponent}
 use Rattle.reference.specs.declared.LiteComponent.{LiteComponent}
@@ -36,10 +37,10 @@ profilesFiled at t i u l =
 abbrev pub noCounts : Counts
 noCounts = record { taps = 0; names = 0; extras = 0 }
 
--- a reference, read into the table t: its entries, then the six numbers at the front
-abbrev pub referenceFiled : List ℕ → Reference → List ℕ
-referenceFiled t m =
-    splice (profilesFiled (profilesAt m) t 0 noCounts (m .profiles)) 0
+-- a reference, read under the rule into the table t: its entries, then the six numbers at the front
+abbrev pub referenceFiled : TypeIdRule → List ℕ → Reference → List ℕ
+referenceFiled rule t m =
+    splice (profilesFiled (profilesAt rule m) t 0 noCounts (m .profiles)) 0
     (frontNumbers (view 4 (m .typeId)) (length (m .profiles)) (sum tapsOf (m .profiles)) (sum namesOf (m .profiles)) (sum extrasOf (m .profiles)))
 
 -- Of a table that held t, into which the entries u were filed, and that then held e: the six numbers at the front are the type id's view and how many

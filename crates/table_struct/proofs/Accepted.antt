@@ -7,6 +7,7 @@ use native.Mathlib.Nat.{sub-zero}
 use native.Mathlib.Omega.{arith}
 use lib.ListN.{length, take, drop, replicate}
 use lib.Seq.{take-at}
+use Rattle.reference.specs.declared.TypeIdRule.{TypeIdRule}
 use Rattle.octets.specs.Octets.{Each, splice}
 use Rattle.reference.specs.Meaning.{Reference, Room}
 use Rattle.reference.specs.Layout.{WellFormed}
@@ -25,12 +26,13 @@ each-first : {A : Type 0} (P : A → Type 0) (xs ys : List A) → Each P (xs ++ 
 each-first P [] ys e = tt
 each-first P (x ∷ xs) ys e = (e .0, each-first P xs ys (e .1))
 
-read-tells : (t : List ℕ) → Lent t → (m : Reference) → Room m → WellFormed m → Tells t (referenceFiled t m) (tablesOf m)
-unfolding filled
-read-tells t l m r w =
-    let u = tablesOf m in
-    let y = tables-typed m w r in
-    tells t (referenceFiled t m) u (read-begins t l m r) (each-first EntryFits (u .profiles) _ (y .profiles)) (each-first TapFits (u .taps) _ (y .taps))
+module _ (rule : TypeIdRule) where
+  read-tells : (t : List ℕ) → Lent t → (m : Reference) → Room m → WellFormed rule m → Tells t (referenceFiled rule t m) (tablesOf rule m)
+  unfolding filled
+  read-tells t l m r w =
+      let u = tablesOf rule m in
+      let y = tables-typed rule m w r in
+      tells t (referenceFiled rule t m) u (read-begins rule t l m r) (each-first EntryFits (u .profiles) _ (y .profiles)) (each-first TapFits (u .taps) _ (y .taps))
 
 -- fillers behind the first ones
 replicate-drop : {A : Type 0} (k n : ℕ) (z : A) → k ≤ n → drop k (replicate n z) ≡ replicate (n - k) z
@@ -42,42 +44,44 @@ fillers : {A : Type 0} (xs : List A) (n : ℕ) (z : A) → length xs ≤ n → x
 unfolding filled
 fillers {A} xs n z h = ap (λ (l : List A). xs ++ l) (replicate-drop (length xs) n z h)
 
-module _ (m : Reference) (r : Room m) (w : WellFormed m) where
-  pub tables-read : tablesFrom (referenceFiled (replicate tableSize 0) m) ≡ tabled (tablesOf m)
-  unfolding tablesFrom listed bodyFrom splice
-  tables-read =
-      let u = tablesOf m in
-      let s = sums m in
-      let z = read-tells (replicate tableSize 0) refl m r w in
-      let ps = z .profiles ∙ fillers (u .profiles) 8 noProfile (omega (arith, s .profiles, r .profiles)) in
-      let ts = z .taps ∙ fillers (u .taps) 36 noTap (omega (arith, s .taps, r .taps)) in
-      let ns = z .names ∙ fillers (u .names) 32 noName (omega (arith, s .names, r .names)) in
-      let es = z .extras ∙ fillers (u .extras) 32 noExtra (omega (arith, s .extras, r .extras)) in
-      λ j.
-      record {
-        «type_id» = u .typeId;
-        «profiles_used» = sym (s .profiles) j;
-        «taps_used» = sym (s .taps) j;
-        «names_used» = sym (s .names) j;
-        «extras_used» = sym (s .extras) j;
-        profiles = ps j;
-        taps = ts j;
-        names = ns j;
-        extras = es j;
-      }
+module _ (rule : TypeIdRule) where
+  module _ (m : Reference) (r : Room m) (w : WellFormed rule m) where
+    pub tables-read : tablesFrom (referenceFiled rule (replicate tableSize 0) m) ≡ tabled (tablesOf rule m)
+    unfolding tablesFrom listed bodyFrom splice
+    tables-read =
+        let u = tablesOf rule m in
+        let s = sums rule m in
+        let z = read-tells rule (replicate tableSize 0) refl m r w in
+        let ps = z .profiles ∙ fillers (u .profiles) 8 noProfile (omega (arith, s .profiles, r .profiles)) in
+        let ts = z .taps ∙ fillers (u .taps) 36 noTap (omega (arith, s .taps, r .taps)) in
+        let ns = z .names ∙ fillers (u .names) 32 noName (omega (arith, s .names, r .names)) in
+        let es = z .extras ∙ fillers (u .extras) 32 noExtra (omega (arith, s .extras, r .extras)) in
+        λ j.
+        record {
+          «type_id» = u .typeId;
+          «profiles_used» = sym (s .profiles) j;
+          «taps_used» = sym (s .taps) j;
+          «names_used» = sym (s .names) j;
+          «extras_used» = sym (s .extras) j;
+          profiles = ps j;
+          taps = ts j;
+          names = ns j;
+          extras = es j;
+        }
 
 taken : {A : Type 0} {l : List A} {n : ℕ} (xs ys : List A) → l ≡ xs ++ drop (length xs) ys → length xs ≡ n → take n l ≡ xs
 taken {n = n} xs ys e h = ap (take n) e ∙ take-at xs (drop (length xs) ys) n h
 
--- The used entries of a table, whatever it held, are the reference's.
-pub lent-shows : (t : List ℕ) → Lent t → (m : Reference) → WellFormed m → Room m → usedOf (tablesFrom (referenceFiled t m)) ≡ tablesOf m
-unfolding tablesFrom splice
-lent-shows t l m w r =
-    let u = tablesOf m in
-    let s = sums m in
-    let z = read-tells t l m r w in
-    let ps = taken (u .profiles) (tablesFrom t .profiles) (z .profiles) (s .profiles) in
-    let ts = taken (u .taps) (tablesFrom t .taps) (z .taps) (s .taps) in
-    let ns = taken (u .names) (tablesFrom t .names) (z .names) (s .names) in
-    let es = taken (u .extras) (tablesFrom t .extras) (z .extras) (s .extras) in
-    λ j. record { typeId = u .typeId; profiles = ps j; taps = ts j; names = ns j; extras = es j }
+module _ (rule : TypeIdRule) where
+  -- The used entries of a table, whatever it held, are the reference's.
+  pub lent-shows : (t : List ℕ) → Lent t → (m : Reference) → WellFormed rule m → Room m → usedOf (tablesFrom (referenceFiled rule t m)) ≡ tablesOf rule m
+  unfolding tablesFrom splice
+  lent-shows t l m w r =
+      let u = tablesOf rule m in
+      let s = sums rule m in
+      let z = read-tells rule t l m r w in
+      let ps = taken (u .profiles) (tablesFrom t .profiles) (z .profiles) (s .profiles) in
+      let ts = taken (u .taps) (tablesFrom t .taps) (z .taps) (s .taps) in
+      let ns = taken (u .names) (tablesFrom t .names) (z .names) (s .names) in
+      let es = taken (u .extras) (tablesFrom t .extras) (z .extras) (s .extras) in
+      λ j. record { typeId = u .typeId; profiles = ps j; taps = ts j; names = ns j; extras = es j }

@@ -14,7 +14,8 @@ use Rattle.reference.specs.declared.TaggedProfile.the-variants as Sort
 use Rattle.reference.specs.Meaning.{Service, sum}
 use Rattle.reference.specs.Layout.{dataOf, layoutProfile}
 use Rattle.reference.specs.Used.{Own}
-use Rattle.reference.specs.Contents.{shown, nameOf, addressOf, profileOf}
+use Rattle.reference.specs.Contents.{shown, nameOf}
+use Rattle.reference.specs.Today.{addressOf, profileOf}
 use Rattle.reference.specs.Writer.{binderSize, bodySize, ownSize}
 use Rattle.table.specs.Flat.{tablesFrom}
 use Rattle.write_parts.specs.Sound.{Within, TapSound, NameSound, ExtraSound, LocationSound}

@@ -9,10 +9,12 @@ use Rattle.octets.specs.Put.{Put}
 use Rattle.octets.proofs.Splice.{splice-splice, splice-comm}
 use Rattle.octets.proofs.Part.{length-part}
 use Rattle.octets.proofs.Put.{then, same}
+use Rattle.octets.specs.Blank.{blank}
+use Rattle.reference.specs.declared.TypeIdRule.{TypeIdRule}
 use Rattle.reference.specs.declared.View.{View}
-use Rattle.reference.specs.Layout.{tagged}
+use Rattle.reference.specs.Layout.{gapLength, gap, tagged}
 use Rattle.reference.specs.Contents.{shown}
-use Rattle.write_parts.specs.Sound.{prefixed, Within}
+use Rattle.write_parts.specs.Sound.{prefixed, gapped, Within}
 
 -- the last field of a layout
 pub last : {d xs e : List ℕ} {at n r : ℕ} → Put d at n xs e r → Put d at n (xs ++ []) e r
@@ -52,6 +54,21 @@ pub onto : (w : ℕ) (l : List ℕ) {d e zs f : List ℕ} {at m r n s : ℕ} →
 onto w l {zs = zs} p q =
     same (then p q) refl
     (append-assoc (octets w (length l)) (l ++ []) zs ∙ ap (λ (x : List ℕ). octets w (length l) ++ (x ++ zs)) (append-nil l)) refl
+
+-- a type id's octets behind their length, and then the rule's gap
+pub with-gap : (rule : TypeIdRule) (s : List ℕ) (v : View) → Within (length s) v → {d e f : List ℕ} {at k r q : ℕ} → k ≡ gapLength rule (v .len)
+    → Put d at (4 + v .len) (prefixed 4 (shown s v)) e r → Put e r k (blank k) f q → Put d at (4 + v .len + gapLength rule (v .len)) (gapped rule (shown s v)) f q
+with-gap rule s v h g p q =
+    let n : gapLength rule (v .len) ≡ gapLength rule (length (shown s v)) = ap (gapLength rule) (sym (length-part s (v .at) (v .len) h)) in
+    onto 4 (shown s v) p (last (same q g (ap blank (g ∙ n)) refl))
+
+pub onto-gap : (rule : TypeIdRule) (l : List ℕ) {d e zs f : List ℕ} {at m r n s : ℕ} → Put d at m (gapped rule l) e r → Put e r n zs f s
+    → Put d at (m + n) (octets 4 (length l) ++ (l ++ (gap rule (length l) ++ zs))) f s
+onto-gap rule l {zs = zs} p q =
+    let a = octets 4 (length l) in
+    let g = gap rule (length l) in
+    same (then p q) refl
+    (append-assoc a (l ++ (g ++ [])) zs ∙ ap (λ (x : List ℕ). a ++ x) (append-assoc l (g ++ []) zs) ∙ ap (λ (x : List ℕ). a ++ (l ++ (x ++ zs))) (append-nil g)) refl
 
 -- ---- a component or a profile, whose length has w octets
 

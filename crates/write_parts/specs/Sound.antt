@@ -1,18 +1,24 @@
--- What a writer asks of an entry over a source of n octets, and a run of octets behind its length. Assumes nothing.
+-- What a writer asks of an entry over a source of n octets, a run of octets behind its length, and a type id with its gap. Assumes nothing.
 use Prim.Native.Nat.{ℕ, _+_, _≤_}
 use mathlib.Core.List.{List, [], _∷_}
 use lib.ListN.{length}
 use Rattle.octets.specs.Octets.{octets, joined}
+use Rattle.reference.specs.declared.TypeIdRule.{TypeIdRule}
 use Rattle.reference.specs.declared.View.{View}
 use Rattle.reference.specs.declared.Tap.{Tap}
 use Rattle.reference.specs.declared.NameComponent.{NameComponent}
 use Rattle.reference.specs.declared.LiteComponent.{LiteComponent}
 use Rattle.reference.specs.declared.ObjectLocation.{ObjectLocation}
+use Rattle.reference.specs.Layout.{gap}
 use Rattle.reference.specs.Writer.{locationSize}
 
 -- octets behind their length, which has w octets
 abbrev pub prefixed : ℕ → List ℕ → List ℕ
 prefixed w l = joined (octets w (length l) ∷ l ∷ [])
+
+-- a type id behind its length, with the rule's gap
+abbrev pub gapped : TypeIdRule → List ℕ → List ℕ
+gapped rule l = joined (octets 4 (length l) ∷ l ∷ gap rule (length l) ∷ [])
 
 -- the view lies within the source
 abbrev pub Within : ℕ → View → Type 0

@@ -5,11 +5,13 @@ ghost use Prim.Native.Nat.{_+_, _≤_};
 ghost use lib.ListN.{length};
 ghost use Rattle.octets.specs.Octets.{octets};
 ghost use Rattle.octets.specs.Put.{Put};
-ghost use Rattle.reference.specs.Layout.{tagged, tag-location, layoutTap, layoutName, layoutExtra, layoutLocation, layoutAddress};
-ghost use Rattle.reference.specs.Contents.{shown, tapOf, nameOf, extraOf, locationOf, addressOf};
+ghost use Rattle.reference.specs.Layout.{gapLength, tagged, tag-location, layoutTap, layoutName, layoutExtra, layoutLocation, layoutAddress};
+ghost use Rattle.reference.specs.Contents.{shown, tapOf, nameOf, extraOf, locationOf};
+ghost use Rattle.reference.specs.Today.{addressOf};
 ghost use Rattle.reference.specs.Writer.{tapSize, nameSize, extraSize, locationSize};
-ghost use Rattle.write_parts.specs.Sound.{prefixed, Within, TapSound, NameSound, ExtraSound, LocationSound};
+ghost use Rattle.write_parts.specs.Sound.{prefixed, gapped, Within, TapSound, NameSound, ExtraSound, LocationSound};
 use octets::copy;
+use octets::put_blank;
 use octets::put8;
 use octets::put16;
 use octets::put32;
@@ -19,7 +21,9 @@ use reference::NsapAddress;
 use reference::ObjectLocation;
 use reference::TAG_OBJECT_LOCATION;
 use reference::Tap;
+use reference::TypeIdRule;
 use reference::View;
+use reference::gap_length;
 
 pub fn write_view(v: View, src: &[u8], out: &mut [u8], at: usize) -> usize
     requires { ⌜ Within (length (now src)) v ⌝ }
@@ -47,6 +51,22 @@ pub fn write_run(v: View, src: &[u8], out: &mut [u8], at: usize) -> usize
 {
     let a = put32(out, at, v.len);
     write_view(v, src, out, a)
+}
+
+// A type id behind its length, with the rule's gap.
+pub fn write_type_id(
+    type_id: View,
+    src: &[u8],
+    out: &mut [u8],
+    at: usize,
+    rule: TypeIdRule,
+) -> usize
+    requires { ⌜ Within (length (now src)) «type_id» ⌝ }
+    requires { ⌜ at + (4 + «type_id» .len + gapLength rule («type_id» .len)) ≤ length (now out) ⌝ }
+    ensures { λ r. ⌜ Put (now (out .entry)) at (4 + «type_id» .len + gapLength rule («type_id» .len)) (gapped rule (shown (now (src .entry)) «type_id»)) (now (out .exit)) r ⌝ }
+{
+    let a = write_run(type_id, src, out, at);
+    put_blank(out, a, gap_length(rule, type_id.len as usize))
 }
 
 pub fn write_tap(tap: Tap, src: &[u8], out: &mut [u8], at: usize) -> usize

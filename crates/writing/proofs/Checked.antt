@@ -5,6 +5,7 @@ use mathlib.Core.Path.{_≡_, refl}
 use mathlib.Core.List.{List, [], _∷_}
 use native.Mathlib.Omega.{arith}
 use lib.ListN.{length}
+use Rattle.reference.specs.declared.TypeIdRule.{TypeIdRule}
 use Rattle.octets.specs.Octets.{Each}
 use Rattle.reference.specs.declared.Tap.{Tap}
 use Rattle.reference.specs.declared.NameComponent.{NameComponent}
@@ -13,6 +14,7 @@ use Rattle.reference.specs.declared.TaggedProfile.{TaggedProfile}
 use Rattle.reference.specs.declared.TaggedProfile.the-variants as Sort
 use Rattle.reference.specs.declared.Tables.{Tables}
 use Rattle.reference.specs.declared.Check.the-variants.{Pass}
+use Rattle.reference.specs.Layout.{gapLength}
 use Rattle.reference.specs.Used.{Used, Own, ownedOf}
 use Rattle.reference.specs.Tabled.{usedOf}
 use Rattle.reference.specs.Checks.{each}
@@ -74,19 +76,20 @@ module _ (n : ℕ) where
       let (y, z) = each-cons ownShort o l k in
       (own-sound o p y (omega arith), owns-sound l q z (omega arith))
 
--- the used profiles, once all checks have passed
-pub used-sound : (s : List ℕ) (t : Tables) (m : ℕ) → Passing t (length s) m → Each (OwnSound (length s)) (ownedOf (usedOf t))
-unfolding sizeOf
-used-sound s t m p = owns-sound (length s) (ownedOf (usedOf t)) (views-own s (usedOf t) (p .views)) (p .short) (omega (arith, p .image))
+module _ (rule : TypeIdRule) where
+  -- the used profiles, once all checks have passed
+  pub used-sound : (s : List ℕ) (t : Tables) (m : ℕ) → Passing rule t (length s) m → Each (OwnSound (length s)) (ownedOf (usedOf t))
+  unfolding sizeOf
+  used-sound s t m p = owns-sound (length s) (ownedOf (usedOf t)) (views-own s (usedOf t) (p .views)) (p .short) (omega (arith, p .image))
 
--- the type id lies within the source, and the whole image has room
-pub type-within : (t : Tables) (n m : ℕ) → Passing t n m → Within n (t .«type_id»)
-unfolding viewsCheck
-type-within t n m p = test-le _ _ _ (passes _ _ (p .views) .0)
+  -- the type id lies within the source, and the whole image has room
+  pub type-within : (t : Tables) (n m : ℕ) → Passing rule t n m → Within n (t .«type_id»)
+  unfolding viewsCheck
+  type-within t n m p = test-le _ _ _ (passes _ _ (p .views) .0)
 
-pub whole-room : (t : Tables) (n m : ℕ) → Passing t n m → 4 + t .«type_id» .len + 4 + sum ownSize (ownedOf (usedOf t)) ≤ m
-unfolding sizeOf
-whole-room t n m p = p .room
+  pub whole-room : (t : Tables) (n m : ℕ) → Passing rule t n m → 4 + t .«type_id» .len + gapLength rule (t .«type_id» .len) + 4 + sum ownSize (ownedOf (usedOf t)) ≤ m
+  unfolding sizeOf
+  whole-room t n m p = p .room
 
 -- ---- a small image has no component that is too long
 
@@ -107,6 +110,7 @@ owns-short : (l : List Own) → sum ownSize l ≤ 255 → each ownShort l ≡ Pa
 owns-short [] h = each-nil ownShort
 owns-short (o ∷ l) h = cons-each ownShort o l (body-short (o .body) (o .taps) (o .names) (o .extras) (omega arith)) (owns-short l (omega arith))
 
-pub small-short : (u : Used) → sizeOf u ≤ 255 → each ownShort (ownedOf u) ≡ Pass
-unfolding sizeOf
-small-short u h = owns-short (ownedOf u) (omega arith)
+module _ (rule : TypeIdRule) where
+  pub small-short : (u : Used) → sizeOf rule u ≤ 255 → each ownShort (ownedOf u) ≡ Pass
+  unfolding sizeOf
+  small-short u h = owns-short (ownedOf u) (omega arith)

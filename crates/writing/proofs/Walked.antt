@@ -12,7 +12,8 @@ use Rattle.reference.specs.Used.{Used, Own, ownedOf, tapsIn, namesIn, extrasIn}
 use Rattle.reference.specs.Tabled.{noProfile}
 use Rattle.reference.specs.Writer.{counted}
 use Rattle.reference.proofs.Walk.{some, some-used, ahead, ahead-open, ahead-end, counted-open, counted-within}
-use Rattle.reference.proofs.Formed.{Passing, length-owned}
+use Rattle.reference.proofs.Agreeing.{AgreeingIn}
+use Rattle.reference.proofs.Formed.{length-owned}
 use Rattle.reference.proofs.Sizes.{length-map}
 use Rattle.table.specs.declared.Counts.{Counts}
 use Rattle.table.specs.Flat.{tablesFrom, bodyOfTable}
@@ -35,10 +36,10 @@ pub record Walked (t : List ℕ) (i : ℕ) (f : Counts) : Type 0 where
   pub names : f .names ≡ counted namesIn (take i (usedIn t .profiles))
   pub extras : f .extras ≡ counted extrasIn (take i (usedIn t .profiles))
 
-module _ (t : List ℕ) (n m : ℕ) (p : Passing (tablesFrom t) n m) where
+module _ (t : List ℕ) (p : AgreeingIn (tablesFrom t)) where
   -- as many as are used
   pub profiles-count : length (usedIn t .profiles) ≡ tablesFrom t .«profiles_used»
-  profiles-count = length-take-le (tablesFrom t .«profiles_used») (tablesFrom t .profiles) (omega (arith, profiles-length t, p .counts .profiles))
+  profiles-count = length-take-le (tablesFrom t .«profiles_used») (tablesFrom t .profiles) (omega (arith, profiles-length t, p .profiles))
 
   pub meanings-count : {B : Type 0} (g : Own → B) → length (map g (ownedOf (usedIn t))) ≡ getD t 2 0
   meanings-count g =
@@ -52,7 +53,7 @@ module _ (t : List ℕ) (n m : ℕ) (p : Passing (tablesFrom t) n m) where
     here-body : getD (usedIn t .profiles) i noProfile .body ≡ bodyOfTable t i
     here-body =
         ap (λ (x : Profile). x .body)
-        (getD-take (tablesFrom t .«profiles_used») (tablesFrom t .profiles) i noProfile h ∙ profile-entry t i (omega (arith, p .counts .profiles)))
+        (getD-take (tablesFrom t .«profiles_used») (tablesFrom t .profiles) i noProfile h ∙ profile-entry t i (omega (arith, p .profiles)))
 
     -- one profile more, of whatever it counts
     more : (g : TaggedProfile → ℕ) → counted g (take i (usedIn t .profiles)) + g (bodyOfTable t i) ≡ counted g (take (i + 1) (usedIn t .profiles))
@@ -66,9 +67,9 @@ module _ (t : List ℕ) (n m : ℕ) (p : Passing (tablesFrom t) n m) where
     pub walk-placed : Placed f (countsIn (bodyOfTable t i))
     walk-placed =
         record {
-          taps = omega (arith, w .taps, within tapsIn, p .counts .tapsSum, p .counts .taps);
-          names = omega (arith, w .names, within namesIn, p .counts .namesSum, p .counts .names);
-          extras = omega (arith, w .extras, within extrasIn, p .counts .extrasSum, p .counts .extras);
+          taps = omega (arith, w .taps, within tapsIn, p .tapsSum, p .taps);
+          names = omega (arith, w .names, within namesIn, p .namesSum, p .names);
+          extras = omega (arith, w .extras, within extrasIn, p .extrasSum, p .extras);
         }
 
     pub walk-on : Walked t (i + 1) (afterOf f (countsIn (bodyOfTable t i)))
@@ -84,9 +85,9 @@ module _ (t : List ℕ) (n m : ℕ) (p : Passing (tablesFrom t) n m) where
     walk-open =
         let u = usedIn t in
         let b = bodyOfTable t i in
-        let ts = some-used (tablesFrom t .«taps_used») (tablesFrom t .taps) (f .taps) (tapsIn b) (omega (arith, w .taps, within tapsIn, p .counts .tapsSum)) in
-        let ns = some-used (tablesFrom t .«names_used») (tablesFrom t .names) (f .names) (namesIn b) (omega (arith, w .names, within namesIn, p .counts .namesSum)) in
-        let es = some-used (tablesFrom t .«extras_used») (tablesFrom t .extras) (f .extras) (extrasIn b) (omega (arith, w .extras, within extrasIn, p .counts .extrasSum)) in
+        let ts = some-used (tablesFrom t .«taps_used») (tablesFrom t .taps) (f .taps) (tapsIn b) (omega (arith, w .taps, within tapsIn, p .tapsSum)) in
+        let ns = some-used (tablesFrom t .«names_used») (tablesFrom t .names) (f .names) (namesIn b) (omega (arith, w .names, within namesIn, p .namesSum)) in
+        let es = some-used (tablesFrom t .«extras_used») (tablesFrom t .extras) (f .extras) (extrasIn b) (omega (arith, w .extras, within extrasIn, p .extrasSum)) in
         ahead-open (u .profiles) (u .taps) (u .names) (u .extras) noProfile i (f .taps) (f .names) (f .extras) (omega (arith, profiles-count))
         ∙ ap (λ (x : TaggedProfile). hereWith u f x ∷ leftAt t (i + 1) (afterOf f (countsIn x))) here-body
         ∙ (λ j. record { body = b; taps = ts j; names = ns j; extras = es j } ∷ leftAt t (i + 1) (afterOf f (countsIn b)))

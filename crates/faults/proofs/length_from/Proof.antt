@@ -11,10 +11,14 @@ survey-of-requires c κs = search needs
 is-sound-requires : tie.Need-is-sound-requires
 is-sound-requires c κs = search needs
 
+image-size-requires : tie.Need-image-size-requires
+image-size-requires c κs = let v = c .before .before in (v .before .before .before .pre, v .survey-of .ensures .bounded)
+
 returns : tie.Need-returns
 returns c =
-    let (p, e) = passed-octets _ (c .before .before .survey-of .ensures) (sym (c .before .is-sound .ensures) ∙ c .if1 .taken) in
-    passed-measured _ _ p e
+    let i = c .before .before in
+    let (p, e) = passed-octets _ _ (i .before .survey-of .ensures) (sym (i .is-sound .ensures) ∙ c .before .if1 .taken) (c .image-size .ensures) in
+    passed-measured _ _ _ p e
 
 refusal-of-requires : tie.Need-refusal-of-requires
 refusal-of-requires c κs =
@@ -22,8 +26,8 @@ refusal-of-requires c κs =
     (v .before .before .before .pre, v .survey-of .ensures, sym (c .before .is-sound .ensures) ∙ c .if1 .left)
 
 returns-2 : tie.Need-returns-2
-returns-2 c = refused-measured _ _ (c .refusal-of .ensures)
+returns-2 c = refused-measured _ _ _ (c .refusal-of .ensures)
 
 pub length-from-spec : {M : Type 1} → statement M
 length-from-spec =
-    tie.close (tie.spec survey-of-requires is-sound-requires returns refusal-of-requires returns-2)
+    tie.close (tie.spec survey-of-requires is-sound-requires image-size-requires returns refusal-of-requires returns-2)

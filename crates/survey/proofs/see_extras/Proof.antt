@@ -1,7 +1,7 @@
 -- `survey::see_extras` meets its contract. Assumes nothing.
 use borrow.Author.Needs.{needs}
 use native.Mathlib.Omega.{arith}
-use Rattle.survey.proofs.Seeing.{fixed-bounded}
+use Rattle.survey.proofs.Seeing.{fixed-bounded, fixed-grown}
 use Rattle.survey.proofs.see_extras.Statement.{statement}
 use Rattle.survey.proofs.see_extras.Tie as tie
 
@@ -26,7 +26,7 @@ returns c =
     let used = w .before .used-at .ensures in
     let fixed = w .with-fixed .ensures .0 in
     let seen = c .see-views .ensures .0 in
-    cc
+    (cc, fixed-grown (w .before .before .before .args .before) (w .with-fixed .result) (c .see-views .result) (w .with-fixed .ensures .1) (c .see-views .ensures .1))
 
 pub see-extras-spec : {M : Type 1} → statement M
 see-extras-spec =

@@ -10,15 +10,15 @@ use Rattle.writing.proofs.write_measured.Tie as tie
 
 -- measuring has passed, so the checks of the output decide
 decides : (o : tie.After-check-output)
-    → let a = o .before .before .before .before .args in writeCheck (tablesFrom (a .t .now)) (length (a .src .now)) (length (a .out .now)) ≡ o .check-output .result
+    → let a = o .before .before .before .before .args in writeCheck (a .rule) (tablesFrom (a .t .now)) (length (a .src .now)) (length (a .out .now)) ≡ o .check-output .result
 decides o =
     let s = o .before .before .before .before in
-    output-decides (tablesFrom (s .args .t .now)) (length (s .args .src .now)) (length (s .args .out .now)) (s .pre .1) ∙ sym (o .check-output .ensures)
+    output-decides (s .args .rule) (tablesFrom (s .args .t .now)) (length (s .args .src .now)) (length (s .args .out .now)) (s .pre .1) ∙ sym (o .check-output .ensures)
 
 check-output-requires : tie.Need-check-output-requires
 check-output-requires c κs =
     let s = c .before .before .before in
-    (s .pre .0, counts-pass (tablesFrom (s .args .t .now)) (length (s .args .src .now)) (length (s .args .out .now)) (s .pre .1), s .pre .2)
+    (s .pre .0, counts-pass (s .args .rule) (tablesFrom (s .args .t .now)) (length (s .args .src .now)) (length (s .args .out .now)) (s .pre .1), s .pre .2)
 
 enum-known-found : tie.Need-enum-known-found
 enum-known-found c = search needs
@@ -27,7 +27,7 @@ returns : tie.Need-returns
 returns c =
     let o = c .before .before .before in
     let a = o .before .before .before .before .args in
-    refuses (tablesFrom (a .t .now)) (a .src .now) (a .out .now) (decides o ∙ c .before .found .given .1)
+    refuses (a .rule) (a .way) (tablesFrom (a .t .now)) (a .src .now) (a .out .now) (decides o ∙ c .before .found .given .1)
 
 enum-told : tie.Need-enum-told
 enum-told c = search needs
@@ -45,7 +45,7 @@ returns-2 c =
     let w = c .before .before in
     let o = w .before .before .before .before in
     let a = o .before .before .before .before .args in
-    accepts (tablesFrom (a .t .now)) (a .src .now) (a .out .now) (decides o ∙ w .before .before .enum-told .given .1) (w .write-image .ensures)
+    accepts (a .rule) (a .way) (tablesFrom (a .t .now)) (a .src .now) (a .out .now) (decides o ∙ w .before .before .enum-told .given .1) (w .write-image .ensures)
 
 pub write-measured-spec : {M : Type 1} → statement M
 write-measured-spec =

@@ -6,9 +6,9 @@ use native.Mathlib.Omega.{arith}
 use lib.ListN.{length}
 use Rattle.reference.specs.Layout.{layoutProfile}
 use Rattle.reference.specs.Used.{ownedOf}
-use Rattle.reference.specs.Contents.{profileOf}
+use Rattle.reference.specs.Today.{profileOf}
 use Rattle.reference.specs.Writer.{ownSize}
-use Rattle.reference.proofs.Formed.{Passing, passing}
+use Rattle.reference.proofs.Agreeing.{AgreeingIn, agreeing}
 use Rattle.table.specs.declared.Counts.{Counts}
 use Rattle.table.specs.Flat.{tablesFrom, bodyOfTable}
 use Rattle.table.proofs.Entries.{profiles-used}
@@ -17,7 +17,6 @@ use Rattle.write_parts.proofs.Left.{Left, begin, turn, fits, room, long, end}
 use Rattle.write_bodies.specs.Own.{OwnSound}
 use Rattle.writing.specs.Own.{countsIn, ownOn, afterOf, Placed}
 use Rattle.writing.proofs.Walked.{leftAt, Walked, left-end, walk-placed, walk-on, walk-open}
-use Rattle.writing.proofs.Checked.{used-sound}
 use Rattle.writing.proofs.write_profiles.Statement.{statement}
 use Rattle.writing.proofs.write_profiles.Tie as tie
 
@@ -29,9 +28,9 @@ Inv-loop t src out₀ at used first₀ pos₀ i₀ out first pos i =
 abbrev μ-loop : tie.MeasureT-loop
 μ-loop t src out₀ at used first₀ pos₀ i₀ out first pos i = used - i
 
--- all checks have passed
-passed : (s : tie.Start Inv-loop μ-loop) → Passing (tablesFrom (s .args .t .now)) (length (s .args .src .now)) (length (s .args .out .now))
-passed s = passing (tablesFrom (s .args .t .now)) (length (s .args .src .now)) (length (s .args .out .now)) (s .pre .0 .1)
+-- the counts agree
+agreed : (s : tie.Start Inv-loop μ-loop) → AgreeingIn (tablesFrom (s .args .t .now))
+agreed s = agreeing (tablesFrom (s .args .t .now)) (s .pre .0 .1)
 
 -- the profile of a turn and those after it, and that its entries lie within the tables
 opened : (k : tie.In-loop Inv-loop μ-loop)
@@ -41,14 +40,14 @@ opened : (k : tie.In-loop Inv-loop μ-loop)
 opened k =
     let l = k .before in
     let s = l .before .before .before .before .before in
-    walk-open (s .args .t .now) _ _ (passed s) (l .loop .i) (l .loop .first) (l .loop .inv .2) (omega (arith, l .loop .inv .1))
+    walk-open (s .args .t .now) (agreed s) (l .loop .i) (l .loop .first) (l .loop .inv .2) (omega (arith, l .loop .inv .1))
 
 inside : (v : tie.After-counts-at Inv-loop μ-loop) → Placed (v .before .before .loop .first) (v .counts-at .result)
 inside v =
     let l = v .before .before in
     let s = l .before .before .before .before .before in
     subst (Placed (l .loop .first)) (sym (v .counts-at .ensures))
-    (walk-placed (s .args .t .now) _ _ (passed s) (l .loop .i) (l .loop .first) (l .loop .inv .2) (omega (arith, l .loop .inv .1)))
+    (walk-placed (s .args .t .now) (agreed s) (l .loop .i) (l .loop .first) (l .loop .inv .2) (omega (arith, l .loop .inv .1)))
 
 number-at-requires : tie.Need-number-at-requires Inv-loop μ-loop
 number-at-requires c κs = omega arith
@@ -59,14 +58,14 @@ loop-holds c =
       omega arith,
       c .number-at .ensures .0 ∙ sym (profiles-used (s .args .t .now)),
       record { taps = refl; names = refl; extras = refl },
-      begin refl (omega arith) (used-sound (s .args .src .now) (tablesFrom (s .args .t .now)) (length (s .args .out .now)) (passed s)),
+      begin refl (omega arith) (s .pre .0 .2),
     )
 
 counts-at-requires : tie.Need-counts-at-requires Inv-loop μ-loop
 counts-at-requires c κs =
     let l = c .before in
     let s = l .before .before .before .before .before in
-    (omega (arith, l .loop .inv .1, passed s .counts .profiles), s .pre .0 .0)
+    (omega (arith, l .loop .inv .1, agreed s .profiles), s .pre .0 .0)
 
 write-profile-requires : tie.Need-write-profile-requires Inv-loop μ-loop
 write-profile-requires c κs =
@@ -74,7 +73,7 @@ write-profile-requires c κs =
     let k = v .before in
     let l = k .before in
     let s = l .before .before .before .before .before in (
-      (omega (arith, l .loop .inv .1, passed s .counts .profiles), s .pre .0 .0),
+      (omega (arith, l .loop .inv .1, agreed s .profiles), s .pre .0 .0),
       ((v .counts-at .ensures, inside v), (fits (opened k) (l .loop .inv .3), room (opened k) (l .loop .inv .3) (s .pre .1))),
     )
 
@@ -84,7 +83,7 @@ after-requires c κs = inside (c .before .before .before .before)
 add-i : tie.Need-add-i Inv-loop μ-loop
 add-i c =
     let l = c .before .before .before .before .before .before .before in
-    omega (arith, l .loop .inv .1, passed (l .before .before .before .before .before) .counts .profiles)
+    omega (arith, l .loop .inv .1, agreed (l .before .before .before .before .before) .profiles)
 
 loop-less : tie.Need-loop-less Inv-loop μ-loop
 loop-less c = omega arith
@@ -100,7 +99,7 @@ loop-again c =
     let e = sym (c .after .ensures ∙ ap (afterOf (l .loop .first)) (v .counts-at .ensures)) in (
       omega arith,
       l .loop .inv .1,
-      subst (Walked t (l .loop .i + 1)) e (walk-on t _ _ (passed s) (l .loop .i) (l .loop .first) (l .loop .inv .2) (omega (arith, l .loop .inv .1))),
+      subst (Walked t (l .loop .i + 1)) e (walk-on t (agreed s) (l .loop .i) (l .loop .first) (l .loop .inv .2) (omega (arith, l .loop .inv .1))),
       subst
           (λ (q : Counts). Left (profileOf (s .args .src .now)) layoutProfile ownSize (OwnSound (length (s .args .src .now))) (s .args .out .now) (s .args .at) (ownedOf (usedIn t)) (leftAt t (l .loop .i + 1) q) (w .write-profile .last .1 .1 .1 .1 .1 .0) (w .write-profile .result))
           e (turn (opened k) (l .loop .inv .3) (w .write-profile .ensures)),
@@ -113,7 +112,7 @@ returns : tie.Need-returns Inv-loop μ-loop
 returns c =
     let l = c .before in
     let s = l .before .before .before .before .before in
-    end (left-end (s .args .t .now) _ _ (passed s) (l .loop .i) (l .loop .first) (omega (arith, l .loop .inv .1))) (l .loop .inv .3)
+    end (left-end (s .args .t .now) (agreed s) (l .loop .i) (l .loop .first) (omega (arith, l .loop .inv .1))) (l .loop .inv .3)
 
 pub write-profiles-spec : {M : Type 1} → statement M
 write-profiles-spec =
