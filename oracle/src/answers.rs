@@ -1,9 +1,9 @@
 //! Answers requests as the program `answers` does: the Rust decides, and document 01's own refusals and the line's form are added.
 
-use crate::model::{self, Broken};
-use crate::readable::describe;
+use crate::agreed::{length_by, locate, read_by, write_by};
+use crate::model::Broken;
 use crate::refusal::{plain, Refusal};
-use crate::request::{take, Reading, Request, Stop};
+use crate::request::{take, Request, Rule, Stop};
 use crate::table::{check_view, Table, PLACES, PROFILES, SIZES, USED};
 use broadcast_common::{Parse, Serialize};
 use dvb_si::carousel::biop::ior::{Ior, NameComponent, ObjectKind, TaggedProfile, Tap};
@@ -48,24 +48,35 @@ pub fn read(whole: bool, source: &[u8]) -> Result<(usize, Table), Refusal> {
     Ok((consumed, Table::of(&ior, source)?))
 }
 
-/// The Rust's value of a table that passes 6, 8, 9 and 10, and the length of its image.
-fn image<'a>(table: &Table, source: &'a [u8]) -> Result<(Ior<'a>, usize), Refusal> {
+/// Refusals 6, 8 and 9 of a table.
+pub fn checked(table: &Table, source: &[u8]) -> Result<(), Refusal> {
     check_limit(6, source.len())?;
     table.check_counts()?;
-    table.check_views(source)?;
+    table.check_views(source)
+}
+
+/// The Rust's value of a table that has been checked, and the length of its image; or refusal 10.
+pub fn measured<'a>(table: &Table, source: &'a [u8]) -> Result<(Ior<'a>, usize), Refusal> {
     let ior = table.value(source);
     let length = ior.serialized_len();
     check_limit(10, length)?;
     Ok((ior, length))
 }
 
+/// A writing of a table that has been checked: how many octets.
+pub fn written(table: &Table, source: &[u8], out: &mut [u8]) -> Result<usize, Refusal> {
+    let (ior, _) = measured(table, source)?;
+    Ok(ior.serialize_into(out)?)
+}
+
 pub fn length(table: &Table, source: &[u8]) -> Result<usize, Refusal> {
-    Ok(image(table, source)?.1)
+    checked(table, source)?;
+    Ok(measured(table, source)?.1)
 }
 
 fn write(table: &Table, source: &[u8], out: &mut [u8]) -> Result<usize, Refusal> {
-    let (ior, _) = image(table, source)?;
-    Ok(ior.serialize_into(out)?)
+    checked(table, source)?;
+    written(table, source, out)
 }
 
 /// The kind as it is printed: three letters, or the four octets.
@@ -85,27 +96,11 @@ fn tap_numbers(use_: u16, selector: &[u8]) -> (Option<u32>, Option<u32>) {
 }
 
 /// Consumed octets and the two views, offset and length each.
-fn read_name(source: &[u8]) -> Result<[usize; 5], Refusal> {
+pub fn read_name(source: &[u8]) -> Result<[usize; 5], Refusal> {
     check_limit(6, source.len())?;
     let (name, consumed) = NameComponent::parse_8bit(source, 0, source.len())?;
     let offset = |part: &[u8]| part.as_ptr() as usize - source.as_ptr() as usize;
     Ok([consumed, offset(name.id), name.id.len(), offset(name.kind), name.kind.len()])
-}
-
-/// A reading by the Rust and by the model: consumed octets, or the refusal and where it broke. The Rust decides all but the offset,
-/// and the model is worth nothing where it differs in any of that.
-pub fn locate(reading: Reading, source: &[u8]) -> Result<usize, Broken> {
-    let by_rust = match reading {
-        Reading::Leading => read(false, source).map(|(consumed, _)| consumed),
-        Reading::Whole => read(true, source).map(|(consumed, _)| consumed),
-        Reading::Name => read_name(source).map(|[consumed, ..]| consumed),
-    };
-    let by_model = model::read(reading, source);
-    if by_model.map_err(|broken| broken.refusal) != by_rust {
-        let asked = describe(&Request::Where { reading, source: source.to_vec() });
-        panic!("the Rust gives {by_rust:?} and the model {by_model:?} for {asked}");
-    }
-    by_model
 }
 
 fn write_name(id: (u32, u32), kind: (u32, u32), source: &[u8], out: &mut [u8]) -> Result<usize, Refusal> {
@@ -198,8 +193,7 @@ fn answer_read(whole: bool, source: &[u8], line: &mut Vec<u8>) -> Answered {
     refused(&result)
 }
 
-fn answer_length(table: &Table, source: &[u8], line: &mut Vec<u8>) -> Answered {
-    let result = length(table, source);
+fn answer_length(result: Result<usize, Refusal>, line: &mut Vec<u8>) -> Answered {
     put_refusal(line, refused(&result).refusal);
     put_spaced(line, &[result.unwrap_or(0)]);
     refused(&result)
@@ -234,13 +228,21 @@ fn answer_read_name(source: &[u8], line: &mut Vec<u8>) -> Answered {
     refused(&result)
 }
 
-fn answer_where(reading: Reading, source: &[u8], line: &mut Vec<u8>) -> Answered {
-    let result = locate(reading, source);
+fn answer_where(result: Result<usize, Broken>, line: &mut Vec<u8>) -> Answered {
     let refusal = result.err().map(|broken| broken.refusal);
     let (offset, origin) = result.err().map_or((0, 0), |broken| (broken.offset, broken.origin));
     put_refusal(line, refusal);
     put_spaced(line, &[offset, result.unwrap_or(0)]);
     Answered { refusal, origin, ..Answered::default() }
+}
+
+fn answer_read_by(rule: Rule, whole: bool, source: &[u8], line: &mut Vec<u8>) -> Answered {
+    let result = read_by(rule, whole, source);
+    let answered = answer_where(result.as_ref().map(|(consumed, _)| *consumed).map_err(|broken| *broken), line);
+    if let Ok((_, table)) = &result {
+        put_table(line, table);
+    }
+    answered
 }
 
 fn answer_first(table: &Table, line: &mut Vec<u8>) -> Answered {
@@ -257,7 +259,7 @@ fn answer_first(table: &Table, line: &mut Vec<u8>) -> Answered {
 pub fn answer(request: &Request, line: &mut Vec<u8>) -> Answered {
     match request {
         Request::Read { whole, source } => answer_read(*whole, source, line),
-        Request::Length { table, source } => answer_length(table, source, line),
+        Request::Length { table, source } => answer_length(length(table, source), line),
         Request::Write { table, room, source } => answer_writing(*room, line, |out| write(table, source, out)),
         Request::Kind { source } => {
             line.extend_from_slice(kind(source).as_bytes());
@@ -271,7 +273,12 @@ pub fn answer(request: &Request, line: &mut Vec<u8>) -> Answered {
             line.extend_from_slice(if is_dvb_address(octets) { b"yes" } else { b"no" });
             Answered::default()
         }
-        Request::Where { reading, source } => answer_where(*reading, source, line),
+        Request::Where { reading, source } => answer_where(locate(*reading, source), line),
+        Request::ReadBy { rule, whole, source } => answer_read_by(*rule, *whole, source, line),
+        Request::LengthBy { rule, table, source } => answer_length(length_by(*rule, table, source), line),
+        Request::WriteBy { rule, table, room, source, .. } => {
+            answer_writing(*room, line, |out| write_by(*rule, table, source, out))
+        }
     }
 }
 

@@ -1,6 +1,7 @@
 //! Document 01's worked references, each with the line that must come: what the self-check runs.
 
 use crate::answers::answer;
+use crate::gap_cases::GAP;
 use crate::listing::list;
 use crate::readable::{describe, octets, request};
 use crate::request::{take, Request};
@@ -11,12 +12,13 @@ use crate::where_cases::WHERE;
 pub type Case = (&'static str, &'static str, &'static str);
 
 /// J is document 01's reference; K the front of one whose second profile follows; L an ObjectLocation without a key and the tag of
-/// a ConnBinder; N an address.
-const NAMED: [(&str, &str); 4] = [
+/// a ConnBinder; N an address; G what K is, with a gap behind its type id.
+const NAMED: [(&str, &str); 5] = [
     ("J", "00000004_73726700_00000001_49534F06_00000016_0002_49534F50_09_00000001_0002_01_00_00_49534F40_01_00"),
     ("K", "00000004_73726700_00000002_00000007_00000003_AABBCC"),
     ("L", "49534F50_09_00000001_0002_01_00_00_49534F40"),
     ("N", "0000_00000009_01_00015A_0003_0004_0005_FFFFFFFF"),
+    ("G", "00000005_6162636465_FFFFFF_00000002_00000007_00000003_AABBCC"),
 ];
 
 const CASES: &[Case] = &[
@@ -171,10 +173,14 @@ fn mutated(expected: &str) -> String {
     changed
 }
 
+fn all() -> impl Iterator<Item = &'static Case> {
+    CASES.iter().chain(WHERE).chain(GAP)
+}
+
 /// Runs all cases, with the expectation of case number `mutate` changed; the names of those that fail, with what came.
 pub fn failures(mutate: Option<usize>) -> Vec<String> {
     let mut failed = Vec::new();
-    for (index, (name, question, expected)) in CASES.iter().chain(WHERE).enumerate() {
+    for (index, (name, question, expected)) in all().enumerate() {
         let expected = expectation(expected);
         let expected = if mutate == Some(index) { mutated(&expected) } else { expected };
         let got = outcome(question);
@@ -186,5 +192,5 @@ pub fn failures(mutate: Option<usize>) -> Vec<String> {
 }
 
 pub fn count() -> usize {
-    CASES.len() + WHERE.len()
+    all().count()
 }

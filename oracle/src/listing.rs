@@ -1,6 +1,7 @@
 //! The cache listing of document 01: marked records, one row for each; and the same with where each refused record broke.
 
-use crate::answers::{kind, locate, read};
+use crate::agreed::locate;
+use crate::answers::{kind, read};
 use crate::place;
 use crate::request::Reading;
 

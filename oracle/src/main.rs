@@ -1,10 +1,13 @@
 //! The oracle: answers requests by the Rust, makes requests from a seed, and compares a program's answers with its own.
 
+mod agreed;
 mod answers;
 mod cases;
 mod compare;
 mod coverage;
+mod gap_cases;
 mod generate;
+mod image;
 mod listing;
 mod model;
 mod place;
@@ -25,7 +28,7 @@ const USAGE: &str = "usage: oracle answer | describe | encode | dirty | list [--
        oracle compare PROGRAM SEED COUNT [OPS] | compare-bad PROGRAM SEED COUNT
        oracle compare-list PROGRAM SEED COUNT | compare-where PROGRAM SEED COUNT
        oracle self-check [--mutate K] | case-count
-OPS is a list with commas of 1 to 13 and sweep.";
+OPS is a list with commas of 1 to 17 and sweep.";
 
 /// Whether all was well.
 type Outcome = Result<bool, Box<dyn Error>>;

@@ -1,4 +1,4 @@
-//! Document 01's places: the number, the name and the words of each, as a listing says them that tells where a record broke.
+//! The places of documents 01 and 02: the number, the name and the words of each, as a listing says them that tells where a record broke.
 
 macro_rules! places {
     ($($number:literal $name:ident $words:literal,)*) => {
@@ -55,4 +55,6 @@ places! {
     41 TAPS "table of taps",
     42 NAMES "table of names",
     43 EXTRAS "table of extras",
+    46 GAP_VALUE "type id gap",
+    47 GAP "type id gap",
 }

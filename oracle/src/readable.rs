@@ -3,9 +3,10 @@
 //! Octets are hexadecimal, `-` for none; when they are read back, `_` separates groups and `GROUP*COUNT` repeats one. A table is
 //! its numbers that aren't zero, `INDEX:NUMBER` with commas between; a view is `OFFSET+LENGTH`.
 
-use crate::request::{Reading, Request};
+use crate::request::{Reading, Request, Rule, Way};
 use crate::table::Table;
 use std::collections::HashMap;
+use std::fmt::{self, Debug, Formatter};
 
 pub fn hex(octets: &[u8]) -> String {
     if octets.is_empty() {
@@ -42,6 +43,12 @@ fn shown_table(table: &Table) -> String {
     }
 }
 
+impl Debug for Table {
+    fn fmt(&self, shown: &mut Formatter) -> fmt::Result {
+        shown.write_str(&shown_table(self))
+    }
+}
+
 fn read_table(text: &str) -> Table {
     let mut table = Table::empty();
     for pair in text.split(',').filter(|_| text != "-") {
@@ -75,6 +82,16 @@ pub fn describe(request: &Request) -> String {
         Request::Where { reading: Reading::Leading, source } => format!("where-leading src={}", hex(source)),
         Request::Where { reading: Reading::Whole, source } => format!("where-whole src={}", hex(source)),
         Request::Where { reading: Reading::Name, source } => format!("where-name src={}", hex(source)),
+        Request::ReadBy { rule, whole, source } => {
+            format!("{}-by rule={} src={}", if *whole { "whole" } else { "leading" }, *rule as u8, hex(source))
+        }
+        Request::LengthBy { rule, table, source } => {
+            format!("length-by rule={} table={} src={}", *rule as u8, shown_table(table), hex(source))
+        }
+        Request::WriteBy { rule, way, table, room, source } => {
+            let choice = format!("rule={} way={}", *rule as u8, *way as u8);
+            format!("write-by {choice} table={} out={room} src={}", shown_table(table), hex(source))
+        }
     }
 }
 
@@ -86,6 +103,8 @@ pub fn request(line: &str) -> Request {
     let source = || octets(values["src"]);
     let table = || read_table(values["table"]);
     let room = || values["out"].parse().expect("a number of octets");
+    let rule = || values["rule"].parse().ok().and_then(Rule::of).expect("a rule, 1 or 2");
+    let way = || values["way"].parse().ok().and_then(Way::of).expect("a way, 1");
     match op {
         "leading" => Request::Read { whole: false, source: source() },
         "whole" => Request::Read { whole: true, source: source() },
@@ -106,6 +125,10 @@ pub fn request(line: &str) -> Request {
         "where-leading" => Request::Where { reading: Reading::Leading, source: source() },
         "where-whole" => Request::Where { reading: Reading::Whole, source: source() },
         "where-name" => Request::Where { reading: Reading::Name, source: source() },
+        "leading-by" => Request::ReadBy { rule: rule(), whole: false, source: source() },
+        "whole-by" => Request::ReadBy { rule: rule(), whole: true, source: source() },
+        "length-by" => Request::LengthBy { rule: rule(), table: table(), source: source() },
+        "write-by" => Request::WriteBy { rule: rule(), way: way(), table: table(), room: room(), source: source() },
         _ => panic!("no such op: {op}"),
     }
 }

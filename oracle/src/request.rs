@@ -13,7 +13,32 @@ pub enum Reading {
     Name,
 }
 
-/// What is asked; `Where` is a reading whose line tells where it broke.
+/// What type ids a reference may have: those of a multiple of 4 octets, or any, with a gap behind them. As octets 1 and 2.
+#[derive(Clone, Copy, Debug, PartialEq, Eq)]
+pub enum Rule {
+    Multiple = 1,
+    Gap = 2,
+}
+
+impl Rule {
+    pub fn of(octet: u8) -> Option<Rule> {
+        [Rule::Multiple, Rule::Gap].into_iter().find(|rule| *rule as u8 == octet)
+    }
+}
+
+/// How addresses are written: with document 01's constants. As octet 1.
+#[derive(Clone, Copy, Debug, PartialEq, Eq)]
+pub enum Way {
+    Constants = 1,
+}
+
+impl Way {
+    pub fn of(octet: u8) -> Option<Way> {
+        [Way::Constants].into_iter().find(|way| *way as u8 == octet)
+    }
+}
+
+/// What is asked; `Where` is a reading whose line tells where it broke, and `..By` is asked under a rule for type ids.
 #[derive(Clone, PartialEq, Eq)]
 pub enum Request {
     Read { whole: bool, source: Vec<u8> },
@@ -26,13 +51,16 @@ pub enum Request {
     First { table: Table },
     Address { octets: [u8; 20] },
     Where { reading: Reading, source: Vec<u8> },
+    ReadBy { rule: Rule, whole: bool, source: Vec<u8> },
+    LengthBy { rule: Rule, table: Table, source: Vec<u8> },
+    WriteBy { rule: Rule, way: Way, table: Table, room: usize, source: Vec<u8> },
 }
 
 /// Why no request could be taken.
 pub enum Stop {
     /// The input ends inside the request.
     Cut,
-    /// Another op, a length above the most, a number wider than its field, or an unknown sort.
+    /// Another op, rule or way, a length above the most, a number wider than its field, or an unknown sort.
     Bad,
 }
 
@@ -45,6 +73,18 @@ impl<'a> Input<'a> {
         let (octets, rest) = self.rest.split_at_checked(count).ok_or(Stop::Cut)?;
         self.rest = rest;
         Ok(octets)
+    }
+
+    fn octet(&mut self) -> Result<u8, Stop> {
+        Ok(self.octets(1)?[0])
+    }
+
+    fn rule(&mut self) -> Result<Rule, Stop> {
+        Rule::of(self.octet()?).ok_or(Stop::Bad)
+    }
+
+    fn way(&mut self) -> Result<Way, Stop> {
+        Way::of(self.octet()?).ok_or(Stop::Bad)
     }
 
     fn number(&mut self) -> Result<u32, Stop> {
@@ -83,7 +123,7 @@ impl<'a> Input<'a> {
     }
 
     fn request(&mut self) -> Result<Request, Stop> {
-        Ok(match self.octets(1)?[0] {
+        Ok(match self.octet()? {
             1 => Request::Read { whole: false, source: self.source()? },
             2 => Request::Read { whole: true, source: self.source()? },
             3 => Request::Length { table: self.table()?, source: self.source()? },
@@ -100,6 +140,13 @@ impl<'a> Input<'a> {
             11 => Request::Where { reading: Reading::Leading, source: self.source()? },
             12 => Request::Where { reading: Reading::Whole, source: self.source()? },
             13 => Request::Where { reading: Reading::Name, source: self.source()? },
+            14 => Request::ReadBy { rule: self.rule()?, whole: false, source: self.source()? },
+            15 => Request::ReadBy { rule: self.rule()?, whole: true, source: self.source()? },
+            16 => Request::LengthBy { rule: self.rule()?, table: self.table()?, source: self.source()? },
+            17 => {
+                let (rule, way) = (self.rule()?, self.way()?);
+                Request::WriteBy { rule, way, table: self.table()?, room: self.size()?, source: self.source()? }
+            }
             _ => return Err(Stop::Bad),
         })
     }
@@ -141,22 +188,45 @@ impl Request {
             Request::Where { reading: Reading::Leading, .. } => 11,
             Request::Where { reading: Reading::Whole, .. } => 12,
             Request::Where { reading: Reading::Name, .. } => 13,
+            Request::ReadBy { whole: false, .. } => 14,
+            Request::ReadBy { whole: true, .. } => 15,
+            Request::LengthBy { .. } => 16,
+            Request::WriteBy { .. } => 17,
+        }
+    }
+
+    /// The rule that it names, if it does.
+    pub fn rule(&self) -> Option<Rule> {
+        match self {
+            Request::ReadBy { rule, .. } | Request::LengthBy { rule, .. } | Request::WriteBy { rule, .. } => Some(*rule),
+            _ => None,
+        }
+    }
+
+    /// The way to write that it names, if it does.
+    fn way(&self) -> Option<Way> {
+        match self {
+            Request::WriteBy { way, .. } => Some(*way),
+            _ => None,
         }
     }
 
     /// Puts the request's octets behind `out`.
     pub fn put(&self, out: &mut Vec<u8>) {
         out.push(self.op() as u8);
+        out.extend(self.rule().map(|rule| rule as u8));
+        out.extend(self.way().map(|way| way as u8));
         match self {
             Request::Read { source, .. }
             | Request::Kind { source }
             | Request::ReadName { source }
-            | Request::Where { source, .. } => put_source(out, source),
-            Request::Length { table, source } => {
+            | Request::Where { source, .. }
+            | Request::ReadBy { source, .. } => put_source(out, source),
+            Request::Length { table, source } | Request::LengthBy { table, source, .. } => {
                 put_table(out, table);
                 put_source(out, source);
             }
-            Request::Write { table, room, source } => {
+            Request::Write { table, room, source } | Request::WriteBy { table, room, source, .. } => {
                 put_table(out, table);
                 put_number(out, *room);
                 put_source(out, source);

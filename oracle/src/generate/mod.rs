@@ -16,23 +16,32 @@ use sweep::Sweep;
 /// The word that asks for the sweep among the ops.
 const SWEEP: &str = "sweep";
 
-/// What can be asked for, and its weight in the mix, of 100: ops 1 to 13, and requests of the sweep.
-const WEIGHTS: [(&str, usize); 14] = [
-    ("1", 14),
-    ("2", 14),
-    ("3", 9),
-    ("4", 13),
+/// What can be asked for, and its weight in the mix, of 120: ops 1 to 17, and requests of the sweep.
+const WEIGHTS: [(&str, usize); 18] = [
+    ("1", 13),
+    ("2", 13),
+    ("3", 8),
+    ("4", 12),
     ("5", 3),
     ("6", 3),
     ("7", 5),
-    ("8", 7),
+    ("8", 6),
     ("9", 3),
     ("10", 3),
     ("11", 9),
     ("12", 9),
     ("13", 4),
-    (SWEEP, 4),
+    ("14", 8),
+    ("15", 8),
+    ("16", 4),
+    ("17", 6),
+    (SWEEP, 3),
 ];
+
+fn read_by(random: &mut Random, whole: bool) -> Request {
+    let rule = random.rule();
+    Request::ReadBy { rule, whole, source: octets::reference_by(random, rule) }
+}
 
 pub struct Generator {
     seed: u64,
@@ -45,7 +54,7 @@ impl Generator {
     pub fn new(seed: u64, ops: Option<&str>) -> Result<Generator, String> {
         let weight = |op: &str| {
             let found = WEIGHTS.iter().find(|(name, _)| *name == op);
-            found.copied().ok_or(format!("OPS must be a list with commas of 1 to 13 and {SWEEP}; '{op}' is none of them"))
+            found.copied().ok_or(format!("OPS must be a list with commas of 1 to 17 and {SWEEP}; '{op}' is none of them"))
         };
         let chosen = match ops {
             None => WEIGHTS.to_vec(),
@@ -70,8 +79,8 @@ impl Generator {
         let mut random = Random::new(self.seed, index);
         let random = &mut random;
         match random.pick(&self.asked) {
-            "1" => Request::Read { whole: false, source: octets::reference(random) },
-            "2" => Request::Read { whole: true, source: octets::reference(random) },
+            "1" => Request::Read { whole: false, source: octets::reference(random, false) },
+            "2" => Request::Read { whole: true, source: octets::reference(random, false) },
             "3" => tables::measure(random),
             "4" => tables::write(random),
             "5" => short::kind(random),
@@ -80,25 +89,34 @@ impl Generator {
             "8" => short::write_name(random),
             "9" => tables::first(random),
             "10" => short::address(random),
-            "11" => Request::Where { reading: Reading::Leading, source: octets::reference(random) },
-            "12" => Request::Where { reading: Reading::Whole, source: octets::reference(random) },
+            "11" => Request::Where { reading: Reading::Leading, source: octets::reference(random, false) },
+            "12" => Request::Where { reading: Reading::Whole, source: octets::reference(random, false) },
             "13" => Request::Where { reading: Reading::Name, source: short::name(random) },
+            "14" => read_by(random, false),
+            "15" => read_by(random, true),
+            "16" => tables::measure_by(random),
+            "17" => tables::write_by(random),
             _ => self.swept(random, index),
         }
     }
 
-    /// Octets of some requests and a bad one. Unless that one is cut, others follow that must not be answered.
+    /// Octets of some requests and a bad one, which is cut, bad in itself, or both. Unless it is cut another follows that must not be
+    /// answered.
     pub fn bad_run(&self, index: u64) -> Vec<u8> {
         let mut random = Random::new(!self.seed, index);
         let mut run = Vec::new();
         let next = 4 * index;
         (next..next + index % 3).for_each(|before| self.request(before).put(&mut run));
-        if random.one_in(3) {
-            let start = run.len();
+        let start = run.len();
+        let good = random.one_in(3);
+        if good {
             self.request(next + 3).put(&mut run);
-            run.truncate(random.between(start + 1, run.len() - 1));
         } else {
             bad::put(&mut random, &mut run);
+        }
+        if good || random.one_in(8) {
+            run.truncate(random.between(start + 1, (run.len() - 1).max(start + 1)));
+        } else {
             self.request(next + 3).put(&mut run);
         }
         run
@@ -109,7 +127,7 @@ impl Generator {
         let mut random = Random::new(self.seed, index);
         let mut cache = Vec::new();
         for _ in 0..random.between(0, 12) {
-            let mut reference = octets::reference(&mut random);
+            let mut reference = octets::reference(&mut random, false);
             reference.truncate(0xFFFF);
             put_record(&mut cache, &reference);
         }

@@ -2,6 +2,8 @@
 
 use super::plan::{crowded, long, small, Part, Plan, TAG_BIOP, TAG_LITE_OPTIONS};
 use super::random::Random;
+use crate::request::Rule;
+use std::ops::Range;
 
 /// What is closed by a length field, and can be cut short or padded with every outer length still right.
 #[derive(Clone, Copy, PartialEq, Eq)]
@@ -38,12 +40,14 @@ struct Field {
     width: usize,
 }
 
-/// A reference in the making, where its length and count fields stand, and where the data of known profiles begin.
+/// A reference in the making, where its length and count fields stand, and which octets must have some value, each with two wrong
+/// ones; of a plan with gaps also where the gap stands.
 struct Draft<'a> {
     random: &'a mut Random,
     octets: Vec<u8>,
     fields: Vec<Field>,
-    fronts: Vec<usize>,
+    values: Vec<(usize, [u8; 2])>,
+    gap: Option<Range<usize>>,
     parts_put: usize,
     damage: Option<Damage>,
     dvb: bool,
@@ -51,7 +55,7 @@ struct Draft<'a> {
 
 impl<'a> Draft<'a> {
     fn new(random: &'a mut Random, damage: Option<Damage>, dvb: bool) -> Draft<'a> {
-        Draft { random, octets: Vec::new(), fields: Vec::new(), fronts: Vec::new(), parts_put: 0, damage, dvb }
+        Draft { random, octets: Vec::new(), fields: Vec::new(), values: Vec::new(), gap: None, parts_put: 0, damage, dvb }
     }
 
     fn constant(&mut self, width: usize, value: u64) {
@@ -66,6 +70,18 @@ impl<'a> Draft<'a> {
     fn filler(&mut self, count: usize) {
         let octets = self.random.octets(count);
         self.octets.extend_from_slice(&octets);
+    }
+
+    /// The octet that comes next must have some value; these two are wrong.
+    fn value(&mut self, wrong: [u8; 2]) {
+        self.values.push((self.octets.len(), wrong));
+    }
+
+    /// The tag that a component must bear, 49534F and this octet.
+    fn tag(&mut self, last: u8) {
+        self.constant(3, 0x49_534F);
+        self.value([last ^ 0x01, last ^ 0x80]);
+        self.constant(1, last as u64);
     }
 
     /// Where the contents of a container begin, behind a length that `close` sets.
@@ -95,7 +111,8 @@ impl<'a> Draft<'a> {
     fn cut(&mut self, end: usize) {
         self.octets.truncate(end);
         self.fields.retain(|field| field.at + field.width <= end);
-        self.fronts.retain(|front| front + 2 <= end);
+        self.values.retain(|(at, _)| *at < end);
+        self.gap.take_if(|gap| gap.end > end);
     }
 
     /// A cut in a field that stands at `start` or behind it, if there is one, or in the tag before it.
@@ -118,7 +135,7 @@ impl<'a> Draft<'a> {
     }
 
     fn location(&mut self, key: usize) {
-        self.constant(4, 0x4953_4F50);
+        self.tag(0x50);
         let start = self.open(1);
         self.filler(6);
         self.constant(2, 0x0100);
@@ -128,7 +145,7 @@ impl<'a> Draft<'a> {
     }
 
     fn binder(&mut self, taps: &[usize]) {
-        self.constant(4, 0x4953_4F40);
+        self.tag(0x40);
         let start = self.open(1);
         self.field(1, taps.len());
         for selector in taps {
@@ -154,8 +171,9 @@ impl<'a> Draft<'a> {
     }
 
     fn service(&mut self, names: &[(usize, usize)], context: usize) {
-        self.constant(4, 0x4953_4F46);
+        self.tag(0x46);
         let start = self.open(4);
+        self.value([19, 21]);
         self.field(1, 20);
         self.address();
         self.field(4, names.len());
@@ -170,11 +188,12 @@ impl<'a> Draft<'a> {
         self.close(Container::Service, start, 4);
     }
 
-    /// What the data of a known profile begin with: the order octet and the component count.
-    fn front(&mut self, components: usize) {
-        self.fronts.push(self.octets.len());
+    /// What the data of a known profile begin with: the order octet and the component count, which has its least.
+    fn front(&mut self, least: u8, extras: usize) {
+        self.value([0x01, 0xFF]);
         self.constant(1, 0);
-        self.field(1, components);
+        self.value([0, least - 1]);
+        self.field(1, least as usize + extras);
     }
 
     fn part(&mut self, part: &Part) {
@@ -187,7 +206,7 @@ impl<'a> Draft<'a> {
             Part::Biop { key, taps, extras } => {
                 self.constant(4, TAG_BIOP as u64);
                 let start = self.open(4);
-                self.front(2 + extras.len());
+                self.front(2, extras.len());
                 self.location(*key);
                 self.binder(taps);
                 self.extras(extras);
@@ -196,7 +215,7 @@ impl<'a> Draft<'a> {
             Part::LiteOptions { names, context, extras } => {
                 self.constant(4, TAG_LITE_OPTIONS as u64);
                 let start = self.open(4);
-                self.front(1 + extras.len());
+                self.front(1, extras.len());
                 self.service(names, *context);
                 self.extras(extras);
                 self.close(Container::LiteOptions, start, 4);
@@ -214,8 +233,17 @@ impl<'a> Draft<'a> {
         }
     }
 
+    fn gap(&mut self) {
+        let start = self.octets.len();
+        self.octets.resize(start.next_multiple_of(4), 0xFF);
+        self.gap = Some(start..self.octets.len());
+    }
+
     fn plan(&mut self, plan: &Plan) {
         self.type_id(plan.type_id);
+        if plan.gaps {
+            self.gap();
+        }
         self.field(4, plan.parts.len());
         for part in &plan.parts {
             self.part(part);
@@ -262,15 +290,15 @@ impl<'a> Draft<'a> {
     /// Nothing stands where it stood.
     fn forget(&mut self) {
         self.fields.clear();
-        self.fronts.clear();
+        self.values.clear();
+        self.gap = None;
     }
 
-    /// Another order octet, or too few components.
-    fn spoil_front(&mut self) {
-        if !self.fronts.is_empty() {
-            let front = self.random.pick(&self.fronts);
-            let (at, values) = if self.random.one_in(2) { (front, [0x01, 0xFF]) } else { (front + 1, [0, 1]) };
-            self.octets[at] = self.random.pick(&values);
+    /// Another order octet, tag or address length, or too few components.
+    fn spoil_value(&mut self) {
+        if !self.values.is_empty() {
+            let (at, wrong) = self.random.pick(&self.values);
+            self.octets[at] = self.random.pick(&wrong);
         }
     }
 
@@ -281,13 +309,48 @@ impl<'a> Draft<'a> {
         }
     }
 
+    /// One octet of a gap wrong.
+    fn change_gap(&mut self, gap: Range<usize>) {
+        let at = self.random.between(gap.start, gap.end - 1);
+        self.octets[at] = self.random.pick(&[0x00, 0x01, 0x7F, 0xEF, 0xFE]);
+    }
+
+    /// So many octets more in a gap, which may have had none.
+    fn widen_gap(&mut self, gap: Range<usize>, count: usize) {
+        self.octets.splice(gap.end..gap.end, vec![0xFF; count]);
+        self.forget();
+    }
+
+    /// A gap that is wrong, cut, left out or too long.
+    fn spoil_gap(&mut self, gap: Range<usize>) {
+        match self.random.below(8) {
+            _ if gap.is_empty() => self.widen_gap(gap, 4),
+            0..=2 => self.change_gap(gap),
+            3 => self.octets[gap].fill(0x00),
+            4 | 5 => {
+                let end = self.random.between(gap.start, gap.end - 1);
+                self.cut(end);
+            }
+            6 => {
+                self.octets.drain(gap);
+                self.forget();
+            }
+            _ => self.widen_gap(gap, 1),
+        }
+    }
+
     fn mutate(&mut self) {
-        match self.random.below(9) {
+        if let Some(gap) = self.gap.clone() {
+            if self.random.one_in(4) {
+                return self.spoil_gap(gap);
+            }
+        }
+        match self.random.below(10) {
             0..=2 => self.lie(),
             3 | 4 => self.truncate(),
             5 => self.insert(),
             6 => self.remove(),
-            7 => self.spoil_front(),
+            7 | 8 => self.spoil_value(),
             _ => self.change(),
         }
     }
@@ -346,12 +409,16 @@ pub fn well_formed(random: &mut Random, plan: &Plan) -> Vec<u8> {
     draft.octets
 }
 
-/// One whose opaque data fills it up to about 65,535 octets.
-fn huge(random: &mut Random) -> Vec<u8> {
-    let mut plan = small(random);
+/// One whose opaque data, or whose type id, fills it up to about 65,535 octets.
+fn huge(random: &mut Random, gaps: bool) -> Vec<u8> {
+    let mut plan = small(random, gaps);
     let short = well_formed(random, &plan).len() + 8;
     let total = random.pick(&[65_534, 65_535, 65_536, 66_000, 70_000]);
-    plan.parts.push(Part::Opaque { tag: 7, data: total - short });
+    if gaps && random.one_in(2) {
+        plan.type_id += total - short + random.below(12);
+    } else {
+        plan.parts.push(Part::Opaque { tag: 7, data: total - short });
+    }
     let damage = random.one_in(4).then(|| damage(random, &plan)).flatten();
     let mut octets = drafted(random, &plan, damage);
     octets.truncate(70_000);
@@ -359,11 +426,16 @@ fn huge(random: &mut Random) -> Vec<u8> {
 }
 
 /// A sequence of numbers that a reference might begin with.
-fn words(random: &mut Random) -> Vec<u8> {
+fn words(random: &mut Random, gaps: bool) -> Vec<u8> {
+    const GAPPED: [u32; 9] = [1, 2, 3, 5, 6, 7, 0x61FF_FFFF, 0x6161_FFFF, 0x6161_61FF];
     let count = random.between(0, 10);
     let mut octets = Vec::new();
     for _ in 0..count {
-        let word = random.pick(&[0, 0, 1, 2, 4, 4, 8, 0xFF, 0x100, TAG_BIOP, TAG_LITE_OPTIONS, 0xFFFF_FFFF]);
+        let word = if gaps && random.one_in(2) {
+            random.pick(&GAPPED)
+        } else {
+            random.pick(&[0, 0, 1, 2, 4, 4, 8, 0xFF, 0x100, TAG_BIOP, TAG_LITE_OPTIONS, 0xFFFF_FFFF])
+        };
         octets.extend_from_slice(&word.to_be_bytes());
     }
     let rest = random.between(0, 3);
@@ -371,28 +443,50 @@ fn words(random: &mut Random) -> Vec<u8> {
     octets
 }
 
-/// Octets to read a reference from.
-pub fn reference(random: &mut Random) -> Vec<u8> {
+/// Octets to read a reference from, of plans with gaps or without.
+pub fn reference(random: &mut Random, gaps: bool) -> Vec<u8> {
     match random.below(3000) {
-        0..=7 => huge(random),
-        8..=120 => words(random),
+        0..=7 => huge(random, gaps),
+        8..=120 => words(random, gaps),
         121..=420 => {
-            let plan = crowded(random);
+            let plan = crowded(random, gaps);
             let damage = random.one_in(4).then(|| damage(random, &plan)).flatten();
             drafted(random, &plan, damage)
         }
         421..=540 => {
-            let plan = long(random);
+            let plan = long(random, gaps);
             drafted(random, &plan, None)
         }
         541..=1400 => {
-            let plan = small(random);
+            let plan = small(random, gaps);
             let damage = damage(random, &plan);
             drafted(random, &plan, damage)
         }
         _ => {
-            let plan = small(random);
+            let plan = small(random, gaps);
             drafted(random, &plan, None)
         }
+    }
+}
+
+/// One of two and more profiles, often with damage to the later ones.
+fn later(random: &mut Random, gaps: bool) -> Vec<u8> {
+    let mut plan = small(random, gaps);
+    plan.parts.insert(0, Part::Opaque { tag: 7, data: random.below(4) });
+    let damage = (!random.one_in(3)).then(|| damage(random, &plan)).flatten();
+    drafted(random, &plan, damage)
+}
+
+/// Octets to read a reference from under a rule.
+pub fn reference_by(random: &mut Random, rule: Rule) -> Vec<u8> {
+    let gaps = random.below(10) < if rule == Rule::Gap { 8 } else { 3 };
+    match random.below(100) {
+        0 => huge(random, gaps),
+        1..=60 => later(random, gaps),
+        61..=72 => {
+            let plan = crowded(random, gaps);
+            drafted(random, &plan, None)
+        }
+        _ => reference(random, gaps),
     }
 }

@@ -8,8 +8,10 @@ pub enum Part {
     LiteOptions { names: Vec<(usize, usize)>, context: usize, extras: Vec<usize> },
 }
 
+/// A type id of any length, or, without `gaps`, of a multiple of 4 octets.
 pub struct Plan {
     pub type_id: usize,
+    pub gaps: bool,
     pub parts: Vec<Part>,
 }
 
@@ -62,14 +64,19 @@ fn small_part(random: &mut Random) -> Part {
     }
 }
 
-fn type_id(random: &mut Random) -> usize {
-    random.pick(&[4, 4, 4, 4, 4, 0, 0, 8, 12, 16])
+fn type_id(random: &mut Random, gaps: bool) -> usize {
+    match random.below(20) {
+        _ if !gaps => random.pick(&[4, 4, 4, 4, 4, 0, 0, 8, 12, 16]),
+        0 => random.between(250, 260),
+        1..=3 => random.between(10, 40),
+        _ => random.between(0, 9),
+    }
 }
 
 /// Few profiles with few entries.
-pub fn small(random: &mut Random) -> Plan {
+pub fn small(random: &mut Random, gaps: bool) -> Plan {
     let profiles = random.pick(&[0, 1, 1, 2, 2, 2, 3]);
-    Plan { type_id: type_id(random), parts: (0..profiles).map(|_| small_part(random)).collect() }
+    Plan { type_id: type_id(random, gaps), gaps, parts: (0..profiles).map(|_| small_part(random)).collect() }
 }
 
 /// A total split into `shares` counts of at most `most` each.
@@ -90,7 +97,7 @@ fn shuffle(random: &mut Random, parts: &mut [Part]) {
 }
 
 /// One of the four tables just full, or with one entry too many, or with some more; often two of them at once.
-pub fn crowded(random: &mut Random) -> Plan {
+pub fn crowded(random: &mut Random, gaps: bool) -> Plan {
     let full = |random: &mut Random, size: usize| match random.below(3) {
         0 => random.between(0, 3),
         1 => size,
@@ -120,11 +127,11 @@ pub fn crowded(random: &mut Random) -> Plan {
         parts.push(opaque(random, 2));
     }
     shuffle(random, &mut parts);
-    Plan { type_id: type_id(random), parts }
+    Plan { type_id: type_id(random, gaps), gaps, parts }
 }
 
 /// Components near the longest: keys around 246, ConnBinders around 255 octets, extras around 255.
-pub fn long(random: &mut Random) -> Plan {
+pub fn long(random: &mut Random, gaps: bool) -> Plan {
     let near = |random: &mut Random, most: usize| most - 2 + random.below(5);
     let key = if random.one_in(2) { near(random, 246) } else { random.between(0, 5) };
     let taps = match random.below(4) {
@@ -144,5 +151,5 @@ pub fn long(random: &mut Random) -> Plan {
         parts.push(Part::LiteOptions { names: vec![(near(random, 255), 3)], context: near(random, 255), extras });
     }
     shuffle(random, &mut parts);
-    Plan { type_id: type_id(random), parts }
+    Plan { type_id: type_id(random, gaps), gaps, parts }
 }

@@ -1,5 +1,7 @@
 //! Random numbers that a seed and a request's index determine.
 
+use crate::request::Rule;
+
 pub struct Random {
     state: u64,
 }
@@ -38,6 +40,10 @@ impl Random {
 
     pub fn pick<T: Copy>(&mut self, choices: &[T]) -> T {
         choices[self.below(choices.len())]
+    }
+
+    pub fn rule(&mut self) -> Rule {
+        self.pick(&[Rule::Multiple, Rule::Gap])
     }
 
     pub fn octets(&mut self, count: usize) -> Vec<u8> {

@@ -75,8 +75,8 @@ fn view(random: &mut Random, size: usize) -> (u32, u32) {
 
 pub fn write_name(random: &mut Random) -> Request {
     let size = match random.below(400) {
-        0 => random.pick(&[LIMIT, LIMIT + 1, MOST]),
-        1..=32 => random.between(254, 270),
+        0 | 1 => random.pick(&[LIMIT, LIMIT + 1, MOST]),
+        2..=33 => random.between(254, 270),
         _ => random.between(0, 20),
     };
     let source = random.octets(size);

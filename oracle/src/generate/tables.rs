@@ -3,8 +3,9 @@
 use super::octets::well_formed;
 use super::plan::{crowded, long, small, Part, Plan, TAG_BIOP, TAG_LITE_OPTIONS};
 use super::random::Random;
-use crate::answers::{length, read, LIMIT};
-use crate::request::{Request, MOST};
+use crate::agreed::{length_by, read_by};
+use crate::answers::{length, LIMIT};
+use crate::request::{Request, Rule, Way, MOST};
 use crate::table::{
     entry, profile_count, Table, BIOP, EXTRAS, LITE_OPTIONS, NAMES, OPAQUE, PROFILES, SIZES, STARTS, TAPS, TYPE_ID, USED,
     WIDTHS,
@@ -201,9 +202,9 @@ impl Form<'_> {
     }
 }
 
-/// A plan whose image over a source of `size` octets, at least 16, has just `image` octets.
-fn exact(size: usize, image: usize) -> Plan {
-    let fixed = 8 + 47;
+/// A plan whose image over a source of `size` octets, at least 16, has just `image` octets and the type id's gap.
+fn exact(type_id: usize, size: usize, image: usize) -> Plan {
+    let fixed = 8 + type_id + 47;
     let name = 8 + 2 * size;
     let names = vec![(size, size); (image - fixed) / name];
     let left = (image - fixed) % name;
@@ -215,42 +216,57 @@ fn exact(size: usize, image: usize) -> Plan {
         context = left - 8 - data;
     }
     parts.push(Part::LiteOptions { names, context, extras: Vec::new() });
-    Plan { type_id: 0, parts }
+    Plan { type_id, gaps: true, parts }
 }
 
 /// A plan, and how many octets the source has.
-fn planned(random: &mut Random) -> (Plan, usize) {
+fn planned(random: &mut Random, gaps: bool) -> (Plan, usize) {
     match random.below(1000) {
         0..=7 => {
             let size = random.between(1100, 4000);
             let image = random.pick(&[LIMIT - 1, LIMIT, LIMIT + 1, LIMIT + 700]);
-            (exact(size, image), size)
+            (exact(0, size, image), size)
         }
-        8..=10 => (small(random), random.pick(&[LIMIT - 1, LIMIT, LIMIT + 1, LIMIT + 2, MOST])),
-        11..=80 => (crowded(random), random.between(0, 12)),
-        81..=160 => (long(random), random.between(258, 300)),
-        _ => (small(random), random.between(0, 40)),
+        8..=12 => (small(random, gaps), random.pick(&[LIMIT - 1, LIMIT, LIMIT + 1, LIMIT + 2, MOST])),
+        13..=80 => (crowded(random, gaps), random.between(0, 12)),
+        81..=160 => (long(random, gaps), random.between(258, 300)),
+        _ => (small(random, gaps), random.between(0, 40)),
     }
 }
 
-/// A table and its source: of a plan, or of a reading.
-fn table_and_source(random: &mut Random) -> (Table, Vec<u8>) {
+/// The same for a table that is asked for under a rule: some images lie around 65,535 octets with their gap or without it.
+fn planned_by(random: &mut Random) -> (Plan, usize) {
+    match random.below(100) {
+        0..=3 => {
+            let (type_id, size) = (random.between(0, 9), random.between(1100, 4000));
+            let image = LIMIT - 4 + random.pick(&[0, 1, 2, 3, 4, 5, 5, 6]);
+            (exact(type_id, size, image), size)
+        }
+        4 => (Plan { type_id: LIMIT - random.between(6, 14), gaps: true, parts: Vec::new() }, LIMIT),
+        5 => (small(random, true), random.pick(&[LIMIT, LIMIT + 1, LIMIT + 2, MOST])),
+        _ => planned(random, true),
+    }
+}
+
+/// A table and its source: of a plan, or of a reading; under a rule or not.
+fn table_and_source(random: &mut Random, by_rule: bool) -> (Table, Vec<u8>) {
     if random.one_in(4) {
-        let plan = small(random);
+        let plan = small(random, by_rule);
         let source = well_formed(random, &plan);
-        if let Ok((_, table)) = read(false, &source) {
+        // Rule 2 takes all that rule 1 takes.
+        if let Ok((_, table)) = read_by(Rule::Gap, false, &source) {
             return (table, source);
         }
     }
-    let (plan, size) = planned(random);
+    let (plan, size) = if by_rule { planned_by(random) } else { planned(random, false) };
     let source = random.octets(size);
     let mut form = Form { random, table: Table::empty(), size };
     form.plan(&plan);
     (form.table, source)
 }
 
-fn faulty_table_and_source(random: &mut Random) -> (Table, Vec<u8>) {
-    let (table, source) = table_and_source(random);
+fn faulty_table_and_source(random: &mut Random, by_rule: bool) -> (Table, Vec<u8>) {
+    let (table, source) = table_and_source(random, by_rule);
     let faults = random.pick(&[0, 0, 0, 1, 1, 1, 2, 3]);
     let garbage = random.one_in(3);
     let mut form = Form { random, table, size: source.len() };
@@ -262,7 +278,7 @@ fn faulty_table_and_source(random: &mut Random) -> (Table, Vec<u8>) {
     if form.table.fits() {
         (form.table, source)
     } else {
-        faulty_table_and_source(random)
+        faulty_table_and_source(random, by_rule)
     }
 }
 
@@ -281,25 +297,39 @@ pub fn room(random: &mut Random, needed: Option<usize>) -> usize {
 }
 
 pub fn measure(random: &mut Random) -> Request {
-    let (table, source) = faulty_table_and_source(random);
+    let (table, source) = faulty_table_and_source(random, false);
     Request::Length { table, source }
 }
 
 pub fn write(random: &mut Random) -> Request {
-    let (table, source) = faulty_table_and_source(random);
+    let (table, source) = faulty_table_and_source(random, false);
     let room = room(random, length(&table, &source).ok());
     Request::Write { table, room, source }
 }
 
+pub fn measure_by(random: &mut Random) -> Request {
+    let (table, source) = faulty_table_and_source(random, true);
+    Request::LengthBy { rule: random.rule(), table, source }
+}
+
+/// Now and then the output is what the other rule's image needs.
+pub fn write_by(random: &mut Random) -> Request {
+    let (table, source) = faulty_table_and_source(random, true);
+    let rule = random.rule();
+    let fitting = if random.one_in(6) { random.rule() } else { rule };
+    let room = room(random, length_by(fitting, &table, &source).ok());
+    Request::WriteBy { rule, way: Way::Constants, table, room, source }
+}
+
 pub fn first(random: &mut Random) -> Request {
-    let (table, _) = faulty_table_and_source(random);
+    let (table, _) = faulty_table_and_source(random, false);
     Request::First { table }
 }
 
 /// A table with a number wider than its field, or with an unknown sort, in a used entry.
 pub fn unfit(random: &mut Random) -> Table {
     loop {
-        let (mut table, _) = table_and_source(random);
+        let (mut table, _) = table_and_source(random, false);
         let profiles = table.used(PROFILES);
         let taps = table.used(TAPS);
         if taps > 0 && random.one_in(2) {
