@@ -18,9 +18,10 @@
  *   - of ior_kind, a kind: 0 to 5 (IOR_KIND_..);
  *   - of ior_tap and ior_dvb_address, 1 or 0: yes or no;
  *   - of all others the refusal's number (IOR_CUT ..), which is the answer's first number too, and 0 (IOR_ACCEPTED) for none;
- *   - of each of them IOR_NOT_ASKED (255) if an array has not the length that it must have, if the use that ior_tap is given has more than 16 bits, or if the
- *     table that ior_length, ior_write or ior_first_biop is given is not exact: it holds a number wider than its field, or an unknown sort, in a used entry.
- *     Then nothing is changed, the answer no more than the rest: test for 255 before you look at it. A table that a reading has filled is exact.
+ *   - of each of them IOR_NOT_ASKED (255) if an array has not the length that it must have, if the use that ior_tap is given has more than 16 bits, if a rule
+ *     or a way is none of those below, or if the table that is given to be measured, written or asked for its first BIOP profile is not exact: it holds a
+ *     number wider than its field, or an unknown sort, in a used entry. Then nothing is changed, the answer no more than the rest: test for 255 before you
+ *     look at it. A table that a reading has filled is exact.
  */
 #ifndef IOR_H
 #define IOR_H
@@ -50,7 +51,7 @@ enum {
     IOR_ACCEPTED = 0,
     IOR_CUT = 1,           /* a field or its data is cut off (figures: need, have), or octets are left over (count, 0) */
     IOR_TOO_LONG = 2,      /* a length passes the end, or a written component passes 255 (declared, available) */
-    IOR_WRONG = 3,         /* an order octet or a required tag is wrong */
+    IOR_WRONG = 3,         /* an order octet, a required tag or the gap behind a type id is wrong */
     IOR_OUT_OF_RANGE = 4,  /* a type id's length, a component count or an address length is out of range */
     IOR_NO_ROOM = 5,       /* the output is too small (need, have) */
     IOR_SOURCE_LARGE = 6,  /* the source has over 65,535 octets (length, 65535) */
@@ -58,7 +59,8 @@ enum {
     IOR_COUNTS = 8,        /* a used count is above the table's size, or sums disagree */
     IOR_OUTSIDE = 9,       /* a view passes the source's end (offset, length) */
     IOR_IMAGE_LARGE = 10,  /* the image has over 65,535 octets (image, 65535) */
-    IOR_NOT_ASKED = 255    /* an array has another length than it must have, or a table is not exact: nothing is changed, the answer neither */
+    IOR_NOT_ASKED = 255    /* an array has another length than it must have, a table is not exact, or no rule or way has the number: nothing is changed, the
+                              answer neither */
 };
 
 /* ---- where an answer's numbers stand */
@@ -114,6 +116,24 @@ uint32_t ior_length(const uint32_t *table, size_t table_len, const uint8_t *s, s
 uint32_t ior_write(const uint32_t *table, size_t table_len, const uint8_t *s, size_t n, uint8_t *out, size_t out_len, uint64_t *answer,
                    size_t answer_len);
 
+/* ---- references by a rule for their type ids, and written in a way */
+
+/* A type id's length is a multiple of 4, as for the functions above; or it may be any, and a gap of 0 to 3 octets FF fills up to the next multiple of 4 before
+ * the profile count. */
+enum { IOR_RULE_MULTIPLE = 1, IOR_RULE_GAP = 2 };
+
+/* An address is written with its constants, as ior_write does. */
+enum { IOR_WAY_CONSTANTS = 1 };
+
+/* The same as the functions above, which are those of IOR_RULE_MULTIPLE and IOR_WAY_CONSTANTS. Under IOR_RULE_GAP a reading refuses a gap that is cut off with
+ * 1, place 47 (figures: where it should end, where the octets end), and one with another octet than FF with 3, place 46, both at the gap's first octet; 4 with
+ * place 33 is not given; and the image has the gap, so that its length counts it. A table doesn't say by which rule it was read: name it again. */
+uint32_t ior_read_by(uint32_t rule, const uint8_t *s, size_t n, uint32_t *table, size_t table_len, uint64_t *answer, size_t answer_len);
+uint32_t ior_read_whole_by(uint32_t rule, const uint8_t *s, size_t n, uint32_t *table, size_t table_len, uint64_t *answer, size_t answer_len);
+uint32_t ior_length_by(uint32_t rule, const uint32_t *table, size_t table_len, const uint8_t *s, size_t n, uint64_t *answer, size_t answer_len);
+uint32_t ior_write_by(uint32_t rule, uint32_t way, const uint32_t *table, size_t table_len, const uint8_t *s, size_t n, uint8_t *out, size_t out_len,
+                      uint64_t *answer, size_t answer_len);
+
 /* ---- questions */
 
 enum { IOR_KIND_DIRECTORY = 0, IOR_KIND_FILE = 1, IOR_KIND_STREAM = 2, IOR_KIND_SERVICE_GATEWAY = 3, IOR_KIND_STREAM_EVENT = 4, IOR_KIND_UNKNOWN = 5 };
@@ -166,6 +186,20 @@ static inline uint32_t ior_length_of(const struct ior_table *t, const uint8_t *s
 }
 static inline uint32_t ior_write_from(const struct ior_table *t, const uint8_t *s, size_t n, uint8_t *out, size_t room, struct ior_answer *a) {
     return ior_write(t->number, IOR_TABLE, s, n, out, room, a->number, IOR_ANSWER);
+}
+
+static inline uint32_t ior_read_into_by(uint32_t rule, const uint8_t *s, size_t n, struct ior_table *t, struct ior_answer *a) {
+    return ior_read_by(rule, s, n, t->number, IOR_TABLE, a->number, IOR_ANSWER);
+}
+static inline uint32_t ior_read_whole_into_by(uint32_t rule, const uint8_t *s, size_t n, struct ior_table *t, struct ior_answer *a) {
+    return ior_read_whole_by(rule, s, n, t->number, IOR_TABLE, a->number, IOR_ANSWER);
+}
+static inline uint32_t ior_length_of_by(uint32_t rule, const struct ior_table *t, const uint8_t *s, size_t n, struct ior_answer *a) {
+    return ior_length_by(rule, t->number, IOR_TABLE, s, n, a->number, IOR_ANSWER);
+}
+static inline uint32_t ior_write_from_by(uint32_t rule, uint32_t way, const struct ior_table *t, const uint8_t *s, size_t n, uint8_t *out, size_t room,
+                                         struct ior_answer *a) {
+    return ior_write_by(rule, way, t->number, IOR_TABLE, s, n, out, room, a->number, IOR_ANSWER);
 }
 
 /* The numbers of entry i; i is below the used count, which is at most the table's size after an accepted reading. */

@@ -1,5 +1,5 @@
 /* The day of one reference, run: references made at random are read into a dirty table, read again into another, written anew and read once more. After
- * each step stands what `through-the-day` promises of it (docs/PROMISES.md). */
+ * each step stands what `through-the-day` promises of it (docs/PROMISES.md). A day is by each rule in turn, and by the functions that name none. */
 #include <stdio.h>
 #include <stdlib.h>
 #include <string.h>
@@ -16,6 +16,7 @@ static const uint8_t constant[CONSTANTS] = {0, 0, 1, 0xFF, 0xFF, 0xFF, 0xFF};
 static uint64_t state = 0x9E3779B97F4A7C15u;
 static uint8_t source[SOURCE], stored[ROOM], output[ROOM], before[ROOM];
 static int fixed[ROOM]; /* which octets of the stored reference are constants */
+static uint32_t rule;   /* the day's; 0 for the functions that name none */
 
 static uint32_t any(uint32_t below) {
     state ^= state << 13, state ^= state >> 7, state ^= state << 17;
@@ -36,6 +37,14 @@ static struct ior_table dirty(void) {
 
 static void fill(uint8_t *octets, size_t n) {
     for (size_t i = 0; i < n; i++) octets[i] = (uint8_t)any(256);
+}
+
+static uint32_t reads(const uint8_t *s, size_t n, struct ior_table *t, struct ior_answer *a) {
+    return rule == 0 ? ior_read_whole_into(s, n, t, a) : ior_read_whole_into_by(rule, s, n, t, a);
+}
+
+static uint32_t writes(const struct ior_table *t, const uint8_t *s, size_t n, uint8_t *out, size_t room, struct ior_answer *a) {
+    return rule == 0 ? ior_write_from(t, s, n, out, room, a) : ior_write_from_by(rule, IOR_WAY_CONSTANTS, t, s, n, out, room, a);
 }
 
 /* ---- a reference at random: its table over the source, and its octets with any constants */
@@ -90,13 +99,13 @@ static size_t arrive(void) {
     struct ior_answer a;
     size_t n, at, profiles = any(IOR_PROFILES + 1);
     for (size_t i = IOR_PROFILES_USED; i <= IOR_EXTRAS_USED; i++) t.number[i] = 0;
-    view(t.number + IOR_TYPE_ID_AT, 3);
-    t.number[IOR_TYPE_ID_LEN] *= 4, t.number[IOR_TYPE_ID_AT] %= SOURCE - 12;
+    view(t.number + IOR_TYPE_ID_AT, 12);
+    if (rule != IOR_RULE_GAP) t.number[IOR_TYPE_ID_LEN] -= t.number[IOR_TYPE_ID_LEN] % 4;
     for (size_t i = 0; i < profiles; i++) profile(&t);
-    expect(ior_write_from(&t, source, SOURCE, stored, ROOM, &a) == IOR_ACCEPTED, "a reference could not be made");
+    expect(writes(&t, source, SOURCE, stored, ROOM, &a) == IOR_ACCEPTED, "a reference could not be made");
     n = (size_t)a.number[IOR_ANSWER_COUNT];
     memset(fixed, 0, sizeof fixed);
-    at = 8 + number(stored);
+    at = 8 + (number(stored) + 3) / 4 * 4;
     for (size_t i = 0; i < profiles; i++) {
         if (number(stored + at) == 0x49534F05)
             for (size_t k = 0; k < CONSTANTS; k++) stored[at + constant_at[k]] = (uint8_t)any(256), fixed[at + constant_at[k]] = 1 + (int)constant[k];
@@ -135,24 +144,24 @@ static void day(void) {
     struct ior_table arrived = dirty(), again = dirty(), was = again, after = dirty(), refused = dirty();
     struct ior_answer a, b;
     size_t n = arrive(), room = n + any(50);
-    expect(ior_read_whole_into(stored, n, &arrived, &a) == IOR_ACCEPTED && a.number[IOR_ANSWER_COUNT] == n, "the octets were not accepted");
-    expect(ior_read_whole_into(stored, n, &again, &b) == IOR_ACCEPTED && same(&a, &b), "the stored octets were not accepted again");
+    expect(reads(stored, n, &arrived, &a) == IOR_ACCEPTED && a.number[IOR_ANSWER_COUNT] == n, "the octets were not accepted");
+    expect(reads(stored, n, &again, &b) == IOR_ACCEPTED && same(&a, &b), "the stored octets were not accepted again");
     expect(equal(&arrived, &again), "used entries differ when read again");
     expect(sums(&again), "a first entry is not where the earlier ones end");
     expect(kept(&was, &again), "an unused entry was changed");
     fill(output, sizeof output), memcpy(before, output, sizeof output);
-    expect(ior_write_from(&again, stored, n, output, room, &b) == IOR_ACCEPTED && same(&a, &b), "the table was not written");
+    expect(writes(&again, stored, n, output, room, &b) == IOR_ACCEPTED && same(&a, &b), "the table was not written");
     for (size_t i = 0; i < n; i++) expect(output[i] == (fixed[i] ? (uint8_t)(fixed[i] - 1) : stored[i]), "the copy differs");
     expect(memcmp(output + n, before + n, sizeof output - n) == 0, "octets behind the copy were changed");
-    expect(ior_read_whole_into(output, n, &after, &b) == IOR_ACCEPTED && same(&a, &b), "the copy was not accepted");
+    expect(reads(output, n, &after, &b) == IOR_ACCEPTED && same(&a, &b), "the copy was not accepted");
     expect(equal(&arrived, &after), "used entries of the copy differ");
-    expect(ior_read_whole_into(stored, n - 1, &refused, &b) != IOR_ACCEPTED, "a reference that is cut was accepted");
+    expect(reads(stored, n - 1, &refused, &b) != IOR_ACCEPTED, "a reference that is cut was accepted");
     for (size_t i = 0; i < IOR_TABLE; i++) expect(refused.number[i] == 0, "a refused reading left a number");
 }
 
 int main(void) {
     fill(source, SOURCE);
-    for (int i = 0; i < DAYS; i++) day();
+    for (uint32_t i = 0; i < DAYS; i++) rule = i % 3, day();
     printf("day: %d days passed\n", (int)DAYS);
     return 0;
 }

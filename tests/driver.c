@@ -58,6 +58,12 @@ static void take(uint8_t *to, size_t n) {
     }
 }
 
+static uint8_t octet(void) {
+    uint8_t b;
+    take(&b, 1);
+    return b;
+}
+
 static uint32_t number(void) {
     uint8_t b[4];
     take(b, 4);
@@ -128,6 +134,13 @@ static void put_answer(uint32_t result, size_t count) {
     }
 }
 
+/* What a writing answers, and all of its output. */
+static void put_written(uint32_t result, size_t room) {
+    put_answer(result, 5);
+    put(' ');
+    put_hex(output, room);
+}
+
 static void put_table(void) {
     for (size_t i = 0; i < IOR_TABLE; i++) {
         if (table[i] == 0) continue;
@@ -147,7 +160,7 @@ static void answer_read(uint32_t (*reads)(const uint8_t *, size_t, uint32_t *, s
     put_table();
 }
 
-/* What ops 11 to 13 tell of an answer: the offset before the count. */
+/* What ops 11 to 15 tell of an answer: the offset before the count. */
 static void put_where(uint32_t result) {
     put_answer(result, 4);
     put(' '), put_number(answer[IOR_ANSWER_OFFSET]);
@@ -172,9 +185,7 @@ static void answer_write(void) {
     room = size();
     n = take_source();
     take_output(room);
-    put_answer(ior_write(table, IOR_TABLE, source, n, output, room, answer, IOR_ANSWER), 5);
-    put(' ');
-    put_hex(output, room);
+    put_written(ior_write(table, IOR_TABLE, source, n, output, room, answer, IOR_ANSWER), room);
 }
 
 static void answer_kind(void) {
@@ -223,9 +234,7 @@ static void answer_name_write(void) {
     room = size();
     n = take_source();
     take_output(room);
-    put_answer(ior_name_write(name, 4, source, n, output, room, answer, IOR_ANSWER), 5);
-    put(' ');
-    put_hex(output, room);
+    put_written(ior_name_write(name, 4, source, n, output, room, answer, IOR_ANSWER), room);
 }
 
 static void answer_first(void) {
@@ -244,12 +253,38 @@ static void answer_address(void) {
     put_word(ior_dvb_address(source, 20) == 1 ? "yes" : "no");
 }
 
+/* ---- the ops that name a rule, and 17 a way: whether there is such a one, the call says */
+
+static void answer_read_by(uint32_t (*reads)(uint32_t, const uint8_t *, size_t, uint32_t *, size_t, uint64_t *, size_t)) {
+    uint8_t rule = octet();
+    size_t n = take_source();
+    memset(table, 0, sizeof table);
+    put_where(reads(rule, source, n, table, IOR_TABLE, answer, IOR_ANSWER));
+    put_table();
+}
+
+static void answer_length_by(void) {
+    uint8_t rule = octet();
+    size_t n;
+    take_table();
+    n = take_source();
+    put_answer(ior_length_by(rule, table, IOR_TABLE, source, n, answer, IOR_ANSWER), 5);
+}
+
+static void answer_write_by(void) {
+    uint8_t rule = octet(), way = octet();
+    size_t room, n;
+    take_table();
+    room = size();
+    n = take_source();
+    take_output(room);
+    put_written(ior_write_by(rule, way, table, IOR_TABLE, source, n, output, room, answer, IOR_ANSWER), room);
+}
+
 int main(int argc, char **argv) {
     apart = argc == 2 && strcmp(argv[1], "apart") == 0;
     while (input_at < input_end || more()) {
-        uint8_t op;
-        take(&op, 1);
-        switch (op) {
+        switch (octet()) {
             case 1: answer_read(ior_read); break;
             case 2: answer_read(ior_read_whole); break;
             case 3: answer_length(); break;
@@ -263,6 +298,10 @@ int main(int argc, char **argv) {
             case 11: answer_where(ior_read); break;
             case 12: answer_where(ior_read_whole); break;
             case 13: answer_name_where(); break;
+            case 14: answer_read_by(ior_read_by); break;
+            case 15: answer_read_by(ior_read_whole_by); break;
+            case 16: answer_length_by(); break;
+            case 17: answer_write_by(); break;
             default: bad();
         }
         put('\n');

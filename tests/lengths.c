@@ -1,4 +1,5 @@
-/* Arrays of other lengths than they must have, and tables that are not exact: each is answered with 255, and nothing is changed. */
+/* Arrays of other lengths than they must have, tables that are not exact, and numbers that name no rule or way: each is answered with 255, and nothing is
+ * changed. */
 #include <stdio.h>
 #include <string.h>
 #include "ior.h"
@@ -37,6 +38,32 @@ static void inexact(const char *what, size_t used, size_t at, uint32_t value, ui
     expect(what, ior_length(table, IOR_TABLE, source, 8, answer, IOR_ANSWER));
     expect(what, ior_write(table, IOR_TABLE, source, 8, output, 16, answer, IOR_ANSWER));
     expect(what, ior_first_biop(table, IOR_TABLE, answer, IOR_ANSWER));
+    for (uint32_t rule = IOR_RULE_MULTIPLE; rule <= IOR_RULE_GAP; rule++) {
+        expect(what, ior_length_by(rule, table, IOR_TABLE, source, 8, answer, IOR_ANSWER));
+        expect(what, ior_write_by(rule, IOR_WAY_CONSTANTS, table, IOR_TABLE, source, 8, output, 16, answer, IOR_ANSWER));
+    }
+}
+
+/* The four functions that name a rule, with a table and an answer of these lengths. */
+static void expect_by(uint32_t rule, size_t t, size_t a) {
+    expect("ior_read_by", ior_read_by(rule, source, 8, table, t, answer, a));
+    expect("ior_read_whole_by", ior_read_whole_by(rule, source, 8, table, t, answer, a));
+    expect("ior_length_by", ior_length_by(rule, table, t, source, 8, answer, a));
+    expect("ior_write_by", ior_write_by(rule, IOR_WAY_CONSTANTS, table, t, source, 8, output, 16, answer, a));
+}
+
+/* Numbers beside those that name a rule or a way, and with them in the lowest octet alone. The arrays are as they must be, and the table is an empty one. */
+static void unnamed(void) {
+    static const uint32_t numbers[] = {0, 3, 255, 256, 257, 258, 0x80000001, 0xFFFFFFFF};
+    dirty();
+    memset(table, 0, sizeof table), memcpy(before, table, sizeof table);
+    for (size_t i = 0; i < 8; i++) {
+        expect_by(numbers[i], IOR_TABLE, IOR_ANSWER);
+        for (uint32_t rule = 0; rule <= IOR_RULE_GAP + 1; rule++)
+            expect("ior_write_by, way", ior_write_by(rule, numbers[i], table, IOR_TABLE, source, 8, output, 16, answer, IOR_ANSWER));
+    }
+    expect("ior_write_by, way 2", ior_write_by(IOR_RULE_MULTIPLE, 2, table, IOR_TABLE, source, 8, output, 16, answer, IOR_ANSWER));
+    expect("ior_write_by, way 2", ior_write_by(IOR_RULE_GAP, 2, table, IOR_TABLE, source, 8, output, 16, answer, IOR_ANSWER));
 }
 
 int main(void) {
@@ -51,6 +78,8 @@ int main(void) {
                 expect("ior_length", ior_length(table, t, source, 8, answer, a));
                 expect("ior_write", ior_write(table, t, source, 8, output, 16, answer, a));
                 expect("ior_first_biop", ior_first_biop(table, t, answer, a));
+                expect_by(IOR_RULE_MULTIPLE, t, a);
+                expect_by(IOR_RULE_GAP, t, a);
             }
             if (t <= 5 && (t != 4 || a != IOR_ANSWER)) {
                 expect("ior_name_read", ior_name_read(source, 8, name, t, answer, a));
@@ -63,6 +92,7 @@ int main(void) {
     expect("ior_tap, use", ior_tap(0x10016, source, 8, pair, 2));
     for (size_t n = 0; n <= 8; n++) expect("ior_dvb_address", ior_dvb_address(source, n));
 
+    unnamed();
     inexact("sort", IOR_PROFILES_USED, IOR_PROFILE_START, 3, 3);
     inexact("module", IOR_PROFILES_USED, IOR_PROFILE_START + IOR_BIOP_MODULE, 65536, IOR_BIOP);
     inexact("major", IOR_PROFILES_USED, IOR_PROFILE_START + IOR_BIOP_MAJOR, 256, IOR_BIOP);

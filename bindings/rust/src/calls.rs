@@ -1,6 +1,8 @@
 //! The only unsafe code: the library's functions, called with slices. Each takes a pointer and a length for every array, keeps neither, reads and
 //! writes nothing else, and is proved to stay inside them.
 
+use crate::{AddressWay, TypeIdRule};
+
 pub const TABLE: usize = 490;
 pub const ANSWER: usize = 6;
 
@@ -10,6 +12,45 @@ mod c {
         pub fn ior_read_whole(s: *const u8, n: usize, table: *mut u32, tables: usize, answer: *mut u64, answers: usize) -> u32;
         pub fn ior_length(table: *const u32, tables: usize, s: *const u8, n: usize, answer: *mut u64, answers: usize) -> u32;
         pub fn ior_write(
+            table: *const u32,
+            tables: usize,
+            s: *const u8,
+            n: usize,
+            out: *mut u8,
+            room: usize,
+            answer: *mut u64,
+            answers: usize,
+        ) -> u32;
+        pub fn ior_read_by(
+            rule: u32,
+            s: *const u8,
+            n: usize,
+            table: *mut u32,
+            tables: usize,
+            answer: *mut u64,
+            answers: usize,
+        ) -> u32;
+        pub fn ior_read_whole_by(
+            rule: u32,
+            s: *const u8,
+            n: usize,
+            table: *mut u32,
+            tables: usize,
+            answer: *mut u64,
+            answers: usize,
+        ) -> u32;
+        pub fn ior_length_by(
+            rule: u32,
+            table: *const u32,
+            tables: usize,
+            s: *const u8,
+            n: usize,
+            answer: *mut u64,
+            answers: usize,
+        ) -> u32;
+        pub fn ior_write_by(
+            rule: u32,
+            way: u32,
             table: *const u32,
             tables: usize,
             s: *const u8,
@@ -56,6 +97,24 @@ pub fn write(table: &Table, s: &[u8], out: &mut [u8], answer: &mut Answer) -> u3
     unsafe {
         c::ior_write(table.as_ptr(), TABLE, s.as_ptr(), s.len(), out.as_mut_ptr(), out.len(), answer.as_mut_ptr(), ANSWER)
     }
+}
+
+pub fn read_by(rule: TypeIdRule, s: &[u8], table: &mut Table, answer: &mut Answer) -> u32 {
+    unsafe { c::ior_read_by(rule as u32, s.as_ptr(), s.len(), table.as_mut_ptr(), TABLE, answer.as_mut_ptr(), ANSWER) }
+}
+
+pub fn read_whole_by(rule: TypeIdRule, s: &[u8], table: &mut Table, answer: &mut Answer) -> u32 {
+    unsafe { c::ior_read_whole_by(rule as u32, s.as_ptr(), s.len(), table.as_mut_ptr(), TABLE, answer.as_mut_ptr(), ANSWER) }
+}
+
+pub fn length_by(rule: TypeIdRule, table: &Table, s: &[u8], answer: &mut Answer) -> u32 {
+    unsafe { c::ior_length_by(rule as u32, table.as_ptr(), TABLE, s.as_ptr(), s.len(), answer.as_mut_ptr(), ANSWER) }
+}
+
+pub fn write_by(rule: TypeIdRule, way: AddressWay, table: &Table, s: &[u8], out: &mut [u8], answer: &mut Answer) -> u32 {
+    let (rule, way) = (rule as u32, way as u32);
+    let (source, n, output, room) = (s.as_ptr(), s.len(), out.as_mut_ptr(), out.len());
+    unsafe { c::ior_write_by(rule, way, table.as_ptr(), TABLE, source, n, output, room, answer.as_mut_ptr(), ANSWER) }
 }
 
 pub fn kind(type_id: &[u8]) -> (u32, u32) {

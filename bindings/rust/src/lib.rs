@@ -1,7 +1,7 @@
 //! Object references (IOP::IOR) of DSM-CC carousels: read, measured and written by a library whose every function is proved.
 //!
 //! A [`Reference`] borrows the octets it was read from and holds a table of numbers beside them; what it hands out are slices of those octets. Nothing
-//! is allocated, and no safe call can panic.
+//! is allocated, and no safe call can panic. Type ids with a gap behind them are read and written by a [`TypeIdRule`].
 //!
 //! ```
 //! use ior::{ObjectKind, Reference, TaggedProfile};
@@ -171,6 +171,23 @@ pub struct LiteComponent<'a> {
     pub data: &'a [u8],
 }
 
+/// What a type id may be. A reference doesn't keep the rule that it was read by: name it again to measure or write it.
+#[derive(Clone, Copy, Debug, PartialEq, Eq, Hash)]
+pub enum TypeIdRule {
+    /// Its length is a multiple of 4: the rule of the functions that name none.
+    Multiple = 1,
+    /// Its length may be any, and a gap of 0 to 3 octets FF fills up to the next multiple of 4 before the profile count.
+    Gap = 2,
+}
+
+/// How an address is written.
+#[derive(Clone, Copy, Debug, PartialEq, Eq, Hash)]
+#[non_exhaustive]
+pub enum AddressWay {
+    /// With its constants: the way of [`Reference::write`].
+    Constants = 1,
+}
+
 /// The octets under a view; a view that lies outside, which no accepted reading gives, shows none.
 fn shown<'a>(source: &'a [u8], view: &[u32]) -> &'a [u8] {
     let at = view[0] as usize;
@@ -195,12 +212,33 @@ pub struct Reference<'a> {
 }
 
 impl<'a> Reference<'a> {
-    /// The reference at the start of `source`, and how many octets it has.
-    pub fn read(source: &'a [u8]) -> Result<(Self, usize), Refusal> {
+    /// What a reading makes of `source`, and how many octets it took.
+    fn made(source: &'a [u8], reads: impl FnOnce(&mut Table, &mut Answer) -> u32) -> Result<(Self, usize), Refusal> {
         let mut reference = Reference { source, table: [0; TABLE] };
         let mut answer: Answer = [0; ANSWER];
-        let result = calls::read(source, &mut reference.table, &mut answer);
+        let result = reads(&mut reference.table, &mut answer);
         Refusal::located(result, &answer).map(|consumed| (reference, consumed))
+    }
+
+    /// The reference at the start of `source`, and how many octets it has.
+    pub fn read(source: &'a [u8]) -> Result<(Self, usize), Refusal> {
+        Self::made(source, |table, answer| calls::read(source, table, answer))
+    }
+
+    /// The same by a rule for its type id.
+    ///
+    /// ```
+    /// use ior::{Reference, TypeIdRule};
+    ///
+    /// let octets = *b"\x00\x00\x00\x05abcde\xFF\xFF\xFF\x00\x00\x00\x00";
+    /// let (reference, consumed) = Reference::read_by(TypeIdRule::Gap, &octets).unwrap();
+    /// assert_eq!((reference.type_id(), consumed), (&b"abcde"[..], 16));
+    /// let why = Reference::read_by(TypeIdRule::Multiple, &octets).unwrap_err();
+    /// assert_eq!(why.to_string(), "out of range: the type id's length, at octet 0 (refusal 4)");
+    /// assert_eq!(Reference::read(&octets).unwrap_err(), why);
+    /// ```
+    pub fn read_by(rule: TypeIdRule, source: &'a [u8]) -> Result<(Self, usize), Refusal> {
+        Self::made(source, |table, answer| calls::read_by(rule, source, table, answer))
     }
 
     /// The reference that `source` is from its start to its end.
@@ -210,10 +248,19 @@ impl<'a> Reference<'a> {
     /// assert_eq!(why.to_string(), "octets left over: 1 behind the reference's end, at octet 8 (refusal 1)");
     /// ```
     pub fn read_whole(source: &'a [u8]) -> Result<Self, Refusal> {
-        let mut reference = Reference { source, table: [0; TABLE] };
-        let mut answer: Answer = [0; ANSWER];
-        let result = calls::read_whole(source, &mut reference.table, &mut answer);
-        Refusal::located(result, &answer).map(|_| reference)
+        Self::made(source, |table, answer| calls::read_whole(source, table, answer)).map(|(reference, _)| reference)
+    }
+
+    /// The same by a rule for its type id.
+    ///
+    /// ```
+    /// use ior::{Reference, TypeIdRule};
+    ///
+    /// let why = Reference::read_whole_by(TypeIdRule::Gap, b"\x00\x00\x00\x05abcde\xFF\xFF").unwrap_err();
+    /// assert_eq!(why.to_string(), "cut off: the gap behind the type id, 12 octets needed, 11 there, at octet 9 (refusal 1)");
+    /// ```
+    pub fn read_whole_by(rule: TypeIdRule, source: &'a [u8]) -> Result<Self, Refusal> {
+        Self::made(source, |table, answer| calls::read_whole_by(rule, source, table, answer)).map(|(reference, _)| reference)
     }
 
     /// The octets of the type id.
@@ -248,6 +295,13 @@ impl<'a> Reference<'a> {
         Refusal::checked(result, &answer)
     }
 
+    /// How many octets [`Reference::write_by`] writes, by the same rule.
+    pub fn length_by(&self, rule: TypeIdRule) -> Result<usize, Refusal> {
+        let mut answer: Answer = [0; ANSWER];
+        let result = calls::length_by(rule, &self.table, self.source, &mut answer);
+        Refusal::checked(result, &answer)
+    }
+
     /// Writes the reference at the start of `out`, and says how many octets that are. Where it is refused, no octet is changed.
     ///
     /// ```
@@ -258,6 +312,24 @@ impl<'a> Reference<'a> {
     pub fn write(&self, out: &mut [u8]) -> Result<usize, Refusal> {
         let mut answer: Answer = [0; ANSWER];
         let result = calls::write(&self.table, self.source, out, &mut answer);
+        Refusal::checked(result, &answer)
+    }
+
+    /// The same by a rule for its type id, and in a way to write addresses.
+    ///
+    /// ```
+    /// use ior::{AddressWay, Reference, TypeIdRule};
+    ///
+    /// let octets = *b"\x00\x00\x00\x05abcde\xFF\xFF\xFF\x00\x00\x00\x00";
+    /// let reference = Reference::read_whole_by(TypeIdRule::Gap, &octets).unwrap();
+    /// let mut anew = [0; 16];
+    /// assert_eq!(reference.length_by(TypeIdRule::Gap), Ok(16));
+    /// assert_eq!(reference.write_by(TypeIdRule::Gap, AddressWay::Constants, &mut anew), Ok(16));
+    /// assert_eq!(anew, octets);
+    /// ```
+    pub fn write_by(&self, rule: TypeIdRule, way: AddressWay, out: &mut [u8]) -> Result<usize, Refusal> {
+        let mut answer: Answer = [0; ANSWER];
+        let result = calls::write_by(rule, way, &self.table, self.source, out, &mut answer);
         Refusal::checked(result, &answer)
     }
 }

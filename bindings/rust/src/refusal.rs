@@ -88,6 +88,7 @@ impl Refusal {
             41 => "the table of taps",
             42 => "the table of names",
             43 => "the table of extras",
+            46 | 47 => "the gap behind the type id",
             _ => "",
         }
     }

@@ -1,6 +1,6 @@
 //! References on both sides of a line, entries as slices of the caller's octets, and damaged and random octets.
 
-use ior::{is_dvb_address, object_kind, ObjectKind, Reference, ShortName, TaggedProfile};
+use ior::{is_dvb_address, object_kind, AddressWay, ObjectKind, Reference, Refusal, ShortName, TaggedProfile, TypeIdRule};
 use std::hash::{DefaultHasher, Hash, Hasher};
 
 const J: [u8; 42] = [
@@ -261,6 +261,94 @@ fn where_it_broke() {
     assert_eq!((why.number, why.offset()), (6, None));
 }
 
+/// A type id of five octets, its gap at 9 to 11, and no profile.
+const GAP: [u8; 16] = *b"\x00\x00\x00\x05abcde\xFF\xFF\xFF\x00\x00\x00\x00";
+
+/// What both readings by a rule refuse octets with, and where they broke.
+fn refused_by(rule: TypeIdRule, octets: &[u8]) -> (Refusal, Option<usize>) {
+    let why = Reference::read_by(rule, octets).expect_err("refused");
+    assert_eq!(Reference::read_whole_by(rule, octets).expect_err("refused"), why);
+    (why, why.offset())
+}
+
+#[test]
+fn type_ids_with_a_gap() {
+    let (reference, consumed) = Reference::read_by(TypeIdRule::Gap, &GAP).unwrap();
+    assert_eq!((reference.type_id(), reference.profiles().len(), consumed), (&b"abcde"[..], 0, 16));
+    assert_eq!(Reference::read_whole_by(TypeIdRule::Gap, &GAP).unwrap(), reference);
+    let (why, offset) = refused_by(TypeIdRule::Multiple, &GAP);
+    assert_eq!((why.number, why.place, offset), (4, 33, Some(0)));
+    assert_eq!(Reference::read(&GAP).unwrap_err(), why);
+    assert_eq!(Reference::read_whole(&GAP).unwrap_err(), why);
+    for at in 9..12 {
+        let mut wrong = GAP;
+        wrong[at] = 0;
+        let (why, offset) = refused_by(TypeIdRule::Gap, &wrong);
+        assert_eq!((why.number, why.place, why.first, why.second, offset), (3, 46, 0, 0, Some(9)));
+        assert_eq!(why.to_string(), "wrong: the gap behind the type id, at octet 9 (refusal 3)");
+        wrong[12..].fill(0xA5);
+        assert_eq!(refused_by(TypeIdRule::Gap, &wrong).0, why, "nothing behind the gap is to blame");
+        let (why, offset) = refused_by(TypeIdRule::Gap, &GAP[..at]);
+        assert_eq!((why.number, why.place, why.first, why.second, offset), (1, 47, 12, at as u64, Some(9)));
+    }
+    let behind = [&GAP[..], &[0xFF]].concat();
+    assert_eq!(Reference::read_by(TypeIdRule::Gap, &behind).unwrap(), (reference, 16));
+    let why = Reference::read_whole_by(TypeIdRule::Gap, &behind).unwrap_err();
+    assert_eq!((why.number, why.place, why.first, why.offset()), (1, 4, 1, Some(16)));
+}
+
+#[test]
+fn a_gap_is_measured_and_written() {
+    let reference = Reference::read_whole_by(TypeIdRule::Gap, &GAP).unwrap();
+    let written = |rule, out: &mut [u8]| reference.write_by(rule, AddressWay::Constants, out);
+    let mut out = [0xA5; 17];
+    assert_eq!((reference.length_by(TypeIdRule::Gap), reference.length_by(TypeIdRule::Multiple)), (Ok(16), Ok(13)));
+    let why = written(TypeIdRule::Multiple, &mut out).unwrap_err();
+    assert_eq!((why.number, why.place, why.offset()), (4, 33, None));
+    assert_eq!((reference.length(), reference.write(&mut out)), (Ok(13), Err(why)));
+    let why = written(TypeIdRule::Gap, &mut out[..15]).unwrap_err();
+    assert_eq!((why.number, why.place, why.first, why.second), (5, 0, 16, 15));
+    assert_eq!(out, [0xA5; 17], "a refusal changes nothing");
+    assert_eq!(written(TypeIdRule::Gap, &mut out), Ok(16));
+    assert_eq!((&out[..16], out[16]), (&GAP[..], 0xA5));
+}
+
+/// `rich` with another type id, of fewer than 256 octets, and its gap.
+fn rich_with(type_id: &[u8]) -> Vec<u8> {
+    let mut octets = [&[0, 0, 0, type_id.len() as u8], type_id].concat();
+    octets.resize(octets.len().next_multiple_of(4), 0xFF);
+    octets.extend(&rich()[8..]);
+    octets
+}
+
+#[test]
+fn every_gap() {
+    for length in 0..10 {
+        let type_id = &b"abcdefghi"[..length];
+        let octets = rich_with(type_id);
+        let reference = Reference::read_whole_by(TypeIdRule::Gap, &octets).unwrap();
+        assert_eq!(reference.type_id(), type_id);
+        assert!(reference.profiles().eq(read(&rich()).profiles()));
+        let mut anew = vec![0; octets.len()];
+        assert_eq!(reference.length_by(TypeIdRule::Gap), Ok(octets.len()));
+        assert_eq!(reference.write_by(TypeIdRule::Gap, AddressWay::Constants, &mut anew), Ok(octets.len()));
+        assert_eq!(anew, octets);
+        assert_eq!(Reference::read_whole(&octets).is_ok(), length % 4 == 0);
+    }
+}
+
+/// The rule that is a multiple of 4 and the way with constants are what the functions without them do.
+fn same_without(octets: &[u8]) {
+    let (rule, way) = (TypeIdRule::Multiple, AddressWay::Constants);
+    assert_eq!(Reference::read_by(rule, octets), Reference::read(octets));
+    assert_eq!(Reference::read_whole_by(rule, octets), Reference::read_whole(octets));
+    let Ok((reference, consumed)) = Reference::read(octets) else { return };
+    let (mut out, mut other) = (vec![0xA5; consumed + 1], vec![0xA5; consumed + 1]);
+    assert_eq!(reference.length_by(rule), reference.length());
+    assert_eq!(reference.write_by(rule, way, &mut out), reference.write(&mut other));
+    assert_eq!(out, other);
+}
+
 #[test]
 fn questions() {
     assert_eq!(object_kind(b"dir\0"), ObjectKind::Directory);
@@ -292,7 +380,14 @@ fn dvb_addresses() {
 
 /// Everything that can be asked of a reference, so that no octets make a safe call panic or read outside.
 fn ask_all(octets: &[u8]) {
-    let Ok((reference, consumed)) = Reference::read(octets) else { return };
+    same_without(octets);
+    for rule in [TypeIdRule::Multiple, TypeIdRule::Gap] {
+        ask_by(rule, octets);
+    }
+}
+
+fn ask_by(rule: TypeIdRule, octets: &[u8]) {
+    let Ok((reference, consumed)) = Reference::read_by(rule, octets) else { return };
     let mut sum = reference.type_id().iter().map(|o| *o as usize).sum::<usize>();
     for profile in reference.profiles() {
         match profile {
@@ -309,10 +404,10 @@ fn ask_all(octets: &[u8]) {
         }
     }
     assert!(sum <= 255 * (octets.len() + 36));
-    assert_eq!(reference.length(), Ok(consumed));
+    assert_eq!(reference.length_by(rule), Ok(consumed));
     let mut out = vec![0; consumed];
-    assert_eq!(reference.write(&mut out), Ok(consumed));
-    assert_eq!(Reference::read_whole(&out).map(|again| again.type_id().to_vec()), Ok(reference.type_id().to_vec()));
+    assert_eq!(reference.write_by(rule, AddressWay::Constants, &mut out), Ok(consumed));
+    assert_eq!(Reference::read_whole_by(rule, &out), Ok(reference));
 }
 
 #[test]
@@ -322,13 +417,14 @@ fn damaged_and_random_octets() {
         state = state.wrapping_mul(6364136223846793005).wrapping_add(1442695040888963407);
         (state >> 56) as u8
     };
-    let whole = rich();
-    for end in 0..whole.len() {
-        ask_all(&whole[..end]);
-        for value in [0, 1, 2, 0x14, 0x7F, 0x80, 0xFF, octet()] {
-            let mut damaged = whole.clone();
-            damaged[end] = value;
-            ask_all(&damaged);
+    for whole in [rich(), rich_with(b"a"), rich_with(b"abcdef")] {
+        for end in 0..whole.len() {
+            ask_all(&whole[..end]);
+            for value in [0, 1, 2, 0x14, 0x7F, 0x80, 0xFF, octet()] {
+                let mut damaged = whole.clone();
+                damaged[end] = value;
+                ask_all(&damaged);
+            }
         }
     }
     for _ in 0..20_000 {
