@@ -4,6 +4,7 @@ use ior::FlatTable;
 use ior::TABLE;
 use libc::STDOUT_FILENO;
 use outcome::tell_written;
+use reference::AddressWay;
 use reference::Answer;
 use reference::FirstBiop;
 use reference::ObjectKind;
@@ -11,6 +12,7 @@ use reference::ObjectLocation;
 use reference::Refusal;
 use reference::Tables;
 use reference::TaggedProfile;
+use reference::TypeIdRule;
 use reference::View;
 use table::MODULE;
 use table::PROFILES_AT;
@@ -151,6 +153,20 @@ fn lend_a_table(s: &[u8]) -> bool {
         && write_too_wide(s, &mut table)
 }
 
+// A type id of five octets with its gap: what rule 1 refuses, rule 2 reads, and writes with the gap.
+fn read_by_rules(s: &[u8]) -> bool {
+    let mut out = [0u8; 64];
+    let first = ior::read_leading_by(s, TypeIdRule::Multiple);
+    let refused = first.answer;
+    let second = ior::read_leading_by(s, TypeIdRule::Gap);
+    let accepted = second.answer;
+    let tables = second.tables;
+    let written = ior::write_by(tables, s, &mut out, TypeIdRule::Gap, AddressWay::Constants);
+    say_answer(b"rule 1: read", refused)
+        && say_answer(b"rule 2: read", accepted)
+        && say_answer(b"rule 2: written", written)
+}
+
 // Of the same reference: a profile that declares 24 octets where 10 are left, and a profile's header that is cut.
 fn refusals() -> bool {
     read_and_say(
@@ -169,6 +185,7 @@ fn main() {
             && lend_a_table(
                 b"\x00\x00\x00\x04\x73\x72\x67\x00\x00\x00\x00\x01\x49\x53\x4F\x06\x00\x00\x00\x18\x00\x02\x49\x53\x4F\x50\x0B\x00\x00\x00\x07\x00\x2A\x01\x00\x02\xC0\xDE\x49\x53\x4F\x40\x01\x00",
             )
+            && read_by_rules(b"\x00\x00\x00\x05\x61\x62\x63\x64\x65\xFF\xFF\xFF\x00\x00\x00\x00")
             && refusals(),
     );
 }

@@ -38,9 +38,9 @@ pub record Agrees (t : Tables) : Type 0 where
   pub namesSum : counted namesIn (usedOf t .profiles) ≡ t .«names_used»
   pub extrasSum : counted extrasIn (usedOf t .profiles) ≡ t .«extras_used»
 
--- The tables t of an accepted reading of d that says m: the entries are m's, each view at the offset where its field stands; over d they say m, as
--- each way writes it: with an address's constants; each used count is the number of entries and the sum of the profiles' counts; the arrays have their sizes and the
--- numbers their widths; what is unused is zero throughout.
+-- The tables t of an accepted reading of d under the rule that says m: the entries are m's, each view at the offset where its field stands; over d they
+-- say m as each way writes it, with an address's constants; each used count is the number of entries and the sum of the profiles' counts; the arrays have
+-- their sizes and the numbers their widths; what is unused is zero throughout.
 pub record ShowsFields (rule : TypeIdRule) (d : List ℕ) (m : Reference) (t : Tables) : Type 0 where
   pub stands : usedOf t ≡ tablesOf rule m
   pub shows : (way : AddressWay) → contents way d (usedOf t) ≡ canon way m

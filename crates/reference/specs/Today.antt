@@ -1,5 +1,5 @@
--- What the calls that name neither a rule nor a way answer: rule 1, and an address with its constants (document 02, No. 11: rule 1 is today's). Under the
--- names that they have without the two. Assumes nothing.
+-- What the calls that name neither a rule nor a way answer: rule 1, and an address with its constants (document 02, No. 11: rule 1 is today's). Each stands
+-- under the name that it has over both. Assumes nothing.
 use Prim.Native.Nat.{ℕ}
 use mathlib.Core.List.{List}
 use Rattle.reference.specs.declared.TypeIdRule.the-variants.{Multiple}
@@ -21,9 +21,6 @@ use Rattle.reference.specs.Where as Where
 use Rattle.reference.specs.Promises as Promises
 
 -- ---- the layout
-
-abbrev pub layoutOf : Reference → List ℕ
-layoutOf = Layout.layoutOf Multiple
 
 abbrev pub Leads : List ℕ → Reference → ℕ → Type 0
 Leads = Layout.Leads Multiple
@@ -55,14 +52,8 @@ profileOf = Contents.profileOf Constants
 abbrev pub measured : Tables → List ℕ → Told
 measured = Writer.measured Multiple
 
-abbrev pub written : Tables → List ℕ → List ℕ → Told
-written = Writer.written Multiple
-
 abbrev pub imageOf : List ℕ → Tables → List ℕ
 imageOf = Writer.imageOf Multiple Constants
-
-abbrev pub leaves : Tables → List ℕ → List ℕ → List ℕ
-leaves = Writer.leaves Multiple Constants
 
 -- ---- the statements of the promises
 

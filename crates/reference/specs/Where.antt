@@ -45,8 +45,8 @@ fieldIn rule d = fieldAmong (fields rule (be (part d 0 4)))
 abbrev pub widthIn : TypeIdRule → List ℕ → ℕ → ℕ
 widthIn rule d place = fieldIn rule d place .width
 
--- The third figure of a reading of d under the rule that is refused with x: an octet of d, or its end. Where a value is wrong, the whole field lies within d, and the number
--- that stands there is not what it must be. 6 and 7 name no octet.
+-- The third figure of a reading of d under the rule that is refused with x: an octet of d, or its end. Where a value is wrong, the whole field lies within
+-- d, and the number that stands there is not what it must be. 6 and 7 name no octet.
 pub record Points (rule : TypeIdRule) (d : List ℕ) (x : Refusal) : Type 0 where
   pub inside : x .offset ≤ length d
   pub field : Among (x .number) (3 ∷ 4 ∷ []) → x .offset + widthIn rule d (x .place) ≤ length d

@@ -27,8 +27,8 @@ returns-2 c =
     let i = c .before .before in
     let g = i .before .before in
     let a = g .before .before .args in
-    let wrong = gap-wrong (a .rule) (a .len) (a .d .now) (a .at) (g .gap-length .ensures .0) (i .before .if1 .left) (i .is-blank .result) (i .is-blank .ensures) in
-    wrong (search needs) (c .wrong-value .ensures) (c .before .if2 .taken)
+    gap-wrong (a .rule) (a .len) (a .d .now) (a .at) (g .gap-length .ensures .0) (i .before .if1 .left) (i .is-blank .result) (i .is-blank .ensures) (search needs)
+    (c .wrong-value .ensures) (c .before .if2 .taken)
 
 returns-3 : tie.Need-returns-3
 returns-3 c =
