@@ -1,6 +1,6 @@
 // Runs the worked references P1 to P11 of document 01, and every case that it marks "Run", through the library, and prints each answer:
-// number, place, two figures, and octets consumed or written; then a DVB address with each octet at each other value. What must come out stands
-// in stdout, from documents 01 and 02.
+// number, place, two figures, and octets consumed or written; then type ids with a gap under both rules, and a DVB address with each octet at each
+// other value. What must come out stands in stdout, from documents 01 and 02.
 ghost use Prim.Native.Nat.{_+_, _<_, _≤_};
 ghost use lib.ListN.{length};
 use ior::AddressOctets;
@@ -8,6 +8,7 @@ use libc::STDOUT_FILENO;
 use octets::put8;
 use octets::put16;
 use octets::put32;
+use reference::AddressWay;
 use reference::Answer;
 use reference::ObjectKind;
 use reference::ObjectLocation;
@@ -19,6 +20,7 @@ use reference::Tables;
 use reference::TaggedProfile;
 use reference::Tap;
 use reference::TapNumbers;
+use reference::TypeIdRule;
 use reference::View;
 use reference::no_tables;
 
@@ -249,6 +251,50 @@ fn reads_run() {
     reads_nine(b"nine of ten", 10);
 }
 
+// A slice under rule 1, and then under rule 2.
+fn reads_by(name: &[u8], s: &[u8]) {
+    let multiple = ior::read_leading_by(s, TypeIdRule::Multiple);
+    let first = multiple.answer;
+    say_answer(name, first);
+    let gap = ior::read_leading_by(s, TypeIdRule::Gap);
+    let second = gap.answer;
+    say_answer(name, second);
+}
+
+// A type id of five octets, and a gap of three that is right, wrong, left out or cut.
+fn reads_gaps() {
+    reads_by(b"gap", b"\x00\x00\x00\x05abcde\xFF\xFF\xFF\x00\x00\x00\x00");
+    reads_by(
+        b"gap wrong",
+        b"\x00\x00\x00\x05abcde\xFF\x00\xFF\x00\x00\x00\x00",
+    );
+    reads_by(b"gap left out", b"\x00\x00\x00\x05abcde\x00\x00\x00\x00");
+    reads_by(b"gap cut", b"\x00\x00\x00\x05abcde\xFF\xFF");
+    reads_by(b"no gap", b"\x00\x00\x00\x04abcd\x00\x00\x00\x00");
+}
+
+// Tables with a type id of so many octets and nothing else, measured and written under the rule.
+fn writes_by(name: &[u8], len: u32, rule: TypeIdRule) {
+    let source = [0u8; 65535];
+    let mut out = [0xA5u8; 65535];
+    let mut t = no_tables();
+    let type_id = View { at: 0, len };
+    t.type_id = type_id;
+    say_answer(name, ior::image_length_by(t, &source, rule));
+    say_answer(
+        name,
+        ior::write_by(t, &source, &mut out, rule, AddressWay::Constants),
+    );
+}
+
+// Without its gap of three, the image of a type id of 65,525 octets would fit.
+fn writes_gaps() {
+    writes_by(b"type id of 65525, rule 1", 65525, TypeIdRule::Multiple);
+    writes_by(b"type id of 65525, rule 2", 65525, TypeIdRule::Gap);
+    writes_by(b"type id of 65524, rule 2", 65524, TypeIdRule::Gap);
+    writes_by(b"type id of 65523, rule 2", 65523, TypeIdRule::Gap);
+}
+
 // A DVB address with the octet at `at` changed to each of the 255 other values: how often it is one still, and how often it is none.
 fn asks_changed(at: usize)
     requires { ⌜ at < 20 ⌝ }
@@ -284,5 +330,7 @@ fn main() {
     writes(b"selector of 3", one_profile(0, 36, 3), 36);
     writes(b"key 246", one_profile(246, 0, 0), 22);
     writes(b"key 247", one_profile(247, 0, 0), 22);
+    reads_gaps();
+    writes_gaps();
     asks_addresses();
 }
