@@ -1,20 +1,24 @@
 -- The promises of the calls that read into a table which the caller lends, and that measure and write from it, over what their contracts say. `s` are the
 -- octets of the caller's slice, `t` the table before the call, whatever it holds, and `e` after it, `r` what the call answered; `d` is an output before a
 -- writing call, `f` after it, `w` its answer. That a slice of u8 holds octets (`Octets`), that the table has 490 numbers and that they are u32 (`Words`)
--- is what the language gives a caller; nothing else is asked. Each is an instance, at rule 1 and with an address's constants, of what `LentRules` proves over
--- the rule and the way. Assumes nothing.
-use Prim.Native.Nat.{ℕ, _≤_}
-use mathlib.Core.Path.{_≡_}
+-- is what the language gives a caller; nothing else is asked. Each but those on both rules is an instance, at rule 1 and with an address's constants, of what
+-- `LentRules` proves over the rule and the way. Assumes nothing.
+use Prim.Native.Nat.{ℕ, _%_, _≤_}
+use mathlib.Core.Path.{_≡_, sym, ap, _∙_}
 use mathlib.Core.List.{List, [], _∷_}
 use mathlib.Core.Logic.{_↔_}
 use lib.ListN.{length, take, replicate}
-use Rattle.octets.specs.Octets.{Octets, Each}
+use Rattle.octets.specs.Octets.{Octets, Each, part, be}
 use Rattle.reference.specs.declared.Answer.{Answer as Told}
 use Rattle.reference.specs.declared.Answer.the-variants.{Count, Refused}
 use Rattle.reference.specs.declared.Refusal.{Refusal}
 use Rattle.reference.specs.Meaning.{Reference, Room}
-use Rattle.reference.specs.declared.TypeIdRule.the-variants.{Multiple}
+use Rattle.reference.specs.declared.TypeIdRule.the-variants.{Multiple, Gap}
+use Rattle.reference.specs.declared.AddressWay.{AddressWay}
 use Rattle.reference.specs.declared.AddressWay.the-variants.{Constants}
+use Rattle.reference.specs.declared.Reading.{Reading}
+use Rattle.reference.specs.Steps.{pick}
+use Rattle.reference.specs.Reader as Reader
 use Rattle.reference.specs.Layout.{WellFormed}
 use Rattle.reference.specs.Used.{Used}
 use Rattle.reference.specs.Today.{Leads, tablesOf, readLeading, readWhole, imageOf, GivesBack, ReadsBack, Points, Alike}
@@ -26,8 +30,13 @@ use Rattle.table.specs.Region.{Words}
 use Rattle.table.specs.Flat.{tablesFrom, tableSize, Lent}
 use Rattle.table.specs.Filed.{referenceFiled, SameEntries}
 use Rattle.survey.specs.Uncut.{Uncut}
+use Rattle.survey.specs.Exact.{exact}
+use Rattle.reading.specs.Into as Into
 use Rattle.reading.specs.Today.{ReadInto, ShowsInto}
+use Rattle.reference.proofs.Rules.{rules-agree}
+use Rattle.reading.proofs.Agreed.{leading-left, whole-left}
 use Rattle.ior.specs.Lent.{notExact}
+use Rattle.ior.specs.Lent as By
 use Rattle.ior.specs.Today.{measuredFrom, WritesFrom}
 use Rattle.ior.proofs.LentRules as rules
 
@@ -130,6 +139,33 @@ module _ (t s d : List ℕ) (w : Told) (f : List ℕ) (c : WritesFrom t s d w f)
   -- Only used entries are looked at: tables with the same front, and the same numbers in their used entries, are measured and written alike.
   pub lent-only-used-matter : (t′ : List ℕ) → SameEntries t t′ → (w′ : Told) (f′ : List ℕ) → WritesFrom t′ s d w′ f′ → (measuredFrom t s ≡ measuredFrom t′ s) × (w ≡ w′) × (f ≡ f′)
   lent-only-used-matter = rules.lent-only-used-matter Multiple Constants t s d w f c
+
+-- ---- the rules for type ids (document 02, No. 11): where the type id's length is a multiple of 4, the two give equal answers and leave the same
+
+module _ (s : List ℕ) (o : Octets s) (h : be (part s 0 4) % 4 ≡ 0) (t e e′ : List ℕ) (r r′ : Told) where
+  pub lent-rules-agree-read-leading : Into.ReadInto Gap (Reader.readLeading Gap s) t e r → Into.ReadInto Multiple (Reader.readLeading Multiple s) t e′ r′ → (r ≡ r′) × (e ≡ e′)
+  lent-rules-agree-read-leading p q = (
+    p .answers ∙ ap (λ (x : Reading). x .answer) (rules-agree .reading s o h .leading) ∙ sym (q .answers),
+    p .leaves ∙ leading-left s o h t ∙ sym (q .leaves),
+  )
+
+  pub lent-rules-agree-read-whole : Into.ReadInto Gap (Reader.readWhole Gap s) t e r → Into.ReadInto Multiple (Reader.readWhole Multiple s) t e′ r′ → (r ≡ r′) × (e ≡ e′)
+  lent-rules-agree-read-whole p q = (
+    p .answers ∙ ap (λ (x : Reading). x .answer) (rules-agree .reading s o h .whole) ∙ sym (q .answers),
+    p .leaves ∙ whole-left s o h t ∙ sym (q .leaves),
+  )
+
+module _ (way : AddressWay) (t s d : List ℕ) (h : tablesFrom t .«type_id» .len % 4 ≡ 0) where
+  pub lent-rules-agree-image-length : By.measuredFrom Gap t s ≡ By.measuredFrom Multiple t s
+  unfolding By.measuredFrom
+  lent-rules-agree-image-length = ap (λ (x : Told). pick (exact t) x notExact) (rules-agree .writing way (tablesFrom t) s d h .measures)
+
+  pub lent-rules-agree-write : (r r′ : Told) (e e′ : List ℕ) → By.WritesFrom Gap way t s d r e → By.WritesFrom Multiple way t s d r′ e′ → (r ≡ r′) × (e ≡ e′)
+  lent-rules-agree-write r r′ e e′ p q =
+      let x = rules-agree .writing way (tablesFrom t) s d h in (
+        p .answers ∙ ap (λ (y : Told). pick (exact t) y notExact) (x .answers) ∙ sym (q .answers),
+        p .leaves ∙ ap (λ (y : List ℕ). pick (exact t) y d) (x .leave) ∙ sym (q .leaves),
+      )
 
 -- ---- each contract determines the answer, and the table or the output too
 

@@ -3,7 +3,7 @@
 -- accepted; `b`, `e` and `f` are the answer, the table and the output after the call; `getD b 4 0` is the count told. That a slice of u8 holds octets
 -- (`Octets`) and one of u32 numbers below 2^32 (`Words`) is what the language gives a caller; nothing else is asked. Those of reading and writing are
 -- instances, at rule 1 and with an address's constants, of what `Rules` proves over the rule and the way. Assumes nothing.
-use Prim.Native.Nat.{ℕ, _≤_}
+use Prim.Native.Nat.{ℕ, _%_, _≤_}
 use mathlib.Core.Path.{_≡_, refl, sym, ap, _∙_, subst}
 use mathlib.Core.Bool.{Bool, true, false}
 use mathlib.Core.Logic.{_≢_, _↔_}
@@ -11,12 +11,13 @@ use mathlib.Core.List.{List, [], _∷_}
 use native.Mathlib.Omega.{arith}
 use lib.ListN.{length, take, getD, replicate}
 use lib.Dec.{T, eqb}
-use Rattle.octets.specs.Octets.{Octets, Each}
+use Rattle.octets.specs.Octets.{Octets, Each, part, be}
 use Rattle.reference.specs.declared.Answer.the-variants.{Refused}
+use Rattle.reference.specs.declared.Reading.{Reading}
 use Rattle.reference.specs.declared.Refusal.{Refusal}
 use Rattle.reference.specs.declared.NameComponent.{NameComponent}
 use Rattle.reference.specs.Meaning.{Reference, Address}
-use Rattle.reference.specs.declared.TypeIdRule.the-variants.{Multiple}
+use Rattle.reference.specs.declared.TypeIdRule.the-variants.{Multiple, Gap}
 use Rattle.reference.specs.declared.AddressWay.the-variants.{Constants}
 use Rattle.reference.specs.Checks.{Among}
 use Rattle.reference.specs.Reader.{readAddress}
@@ -33,11 +34,13 @@ use Rattle.reference.proofs.Steps.{seen-no}
 use Rattle.reference.proofs.Asked.{picks-first}
 use Rattle.reference.proofs.Blame as blame
 use Rattle.reference.proofs.Addresses as addresses
+use Rattle.reference.proofs.Rules.{rules-agree}
 use Rattle.table.specs.Region.{Words}
 use Rattle.table.specs.Flat.{tablesFrom, tableSize, Lent}
 use Rattle.table.specs.Filed.{SameEntries}
 use Rattle.survey.specs.Uncut.{Uncut}
 use Rattle.reading.specs.Today.{ShowsInto}
+use Rattle.reading.proofs.Agreed.{leading-left, whole-left}
 use Rattle.ior_c.specs.Said.{answerSize, numberOf, numbersOf, sized, askable, truth, nameSaid}
 use Rattle.ior_c.specs.Calls.{ruleNumber, wayNumber, Unasked, IorReadBy, IorReadWholeBy, IorLengthBy, IorWriteBy, IorKind, IorTap, IorFirstBiop, IorDvbAddress, IorNameRead, IorNameWrite}
 use Rattle.ior_c.specs.Today.{IorRead, IorReadWhole, IorLength, IorWrite, Day, Kept}
@@ -238,6 +241,27 @@ c-length-by-one t s a r b c = c .named Multiple refl
 
 pub c-write-by-one : (t s d a : List ℕ) (r : ℕ) (b f : List ℕ) → IorWriteBy 1 1 t s d a r b f → IorWrite t s d a r b f
 c-write-by-one t s d a r b f c = c .named Multiple refl .named Constants refl
+
+-- On multiples of 4 the two rules give equal results, and leave the same in every array.
+module _ (s : List ℕ) (o : Octets s) (h : be (part s 0 4) % 4 ≡ 0) (t a : List ℕ) (r r′ : ℕ) (b b′ e e′ : List ℕ) where
+  pub c-rules-agree-read-leading : IorReadBy 2 s t a r b e → IorReadBy 1 s t a r′ b′ e′ → (r ≡ r′) × (b ≡ b′) × (e ≡ e′)
+  c-rules-agree-read-leading p q =
+      gives-alike refl (ap (λ (x : Reading). x .answer) (rules-agree .reading s o h .leading)) (leading-left s o h t) (p .named Gap refl) (q .named Multiple refl)
+
+  pub c-rules-agree-read-whole : IorReadWholeBy 2 s t a r b e → IorReadWholeBy 1 s t a r′ b′ e′ → (r ≡ r′) × (b ≡ b′) × (e ≡ e′)
+  c-rules-agree-read-whole p q =
+      gives-alike refl (ap (λ (x : Reading). x .answer) (rules-agree .reading s o h .whole)) (whole-left s o h t) (p .named Gap refl) (q .named Multiple refl)
+
+module _ (t s d a : List ℕ) (h : tablesFrom t .«type_id» .len % 4 ≡ 0) (r r′ : ℕ) (b b′ : List ℕ) where
+  pub c-rules-agree-image-length : IorLengthBy 2 t s a r b → IorLengthBy 1 t s a r′ b′ → (r ≡ r′) × (b ≡ b′)
+  c-rules-agree-image-length p q =
+      let x = rules-agree .writing Constants (tablesFrom t) s d h .measures in
+      tells-alike refl (ap numberOf x) (ap numbersOf x) (p .named Gap refl) (q .named Multiple refl)
+
+  pub c-rules-agree-write : (f f′ : List ℕ) → IorWriteBy 2 1 t s d a r b f → IorWriteBy 1 1 t s d a r′ b′ f′ → (r ≡ r′) × (b ≡ b′) × (f ≡ f′)
+  c-rules-agree-write f f′ p q =
+      let x = rules-agree .writing Constants (tablesFrom t) s d h in
+      gives-alike refl (x .answers) (x .leave) (p .named Gap refl .named Constants refl) (q .named Multiple refl .named Constants refl)
 
 unasked-alike : {a d : List ℕ} {r r′ : ℕ} {b b′ e e′ : List ℕ} → Unasked a d r b e → Unasked a d r′ b′ e′ → (r ≡ r′) × (b ≡ b′) × (e ≡ e′)
 unasked-alike u v = (u .0 ∙ sym (v .0), u .1 ∙ sym (v .1), u .2 ∙ sym (v .2))

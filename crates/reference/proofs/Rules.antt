@@ -48,12 +48,12 @@ reference-same d pos end h =
     (run n (λ i. after (need (g j) place-gap (checked (g j) (λ v. eqb v (be (replicate (g j) 0xFF))) 3 place-gap-value λ v. done v)) λ g. after (readCount 4 place-profile-count) λ c. after (many c readProfile) λ l. done (record { typeId = i; profiles = l })) d (pos + 4) end)
     (refused (wrongAt 4 place-type-id-length pos)))
 
-leading-same : (d : List ℕ) → be (part d 0 4) % 4 ≡ 0 → readLeading Gap d ≡ readLeading Multiple d
+pub leading-same : (d : List ℕ) → be (part d 0 4) % 4 ≡ 0 → readLeading Gap d ≡ readLeading Multiple d
 unfolding readLeading
 leading-same d h =
     ap (λ (x : Answer Reference). pick (ltb 65535 (length d)) (refused (refusal 6 0 (length d) 65535)) (followed x roomy)) (reference-same d 0 (length d) h)
 
-whole-same : (d : List ℕ) → be (part d 0 4) % 4 ≡ 0 → readWhole Gap d ≡ readWhole Multiple d
+pub whole-same : (d : List ℕ) → be (part d 0 4) % 4 ≡ 0 → readWhole Gap d ≡ readWhole Multiple d
 unfolding readWhole ending
 whole-same d h =
     ap (λ (x : Answer Reference). pick (ltb 65535 (length d)) (refused (refusal 6 0 (length d) 65535)) (followed (ending place-reference-leftover (λ _ _ _. x) d 0 (length d)) roomy))
@@ -77,11 +77,19 @@ answered-same : (a : Answer Reference) → ((m : Reference) (n : ℕ) → a ≡ 
 answered-same (ok m n) h = ap (λ (u : Used). record { answer = Count n; tables = tabled u }) (tables-same m (h m n refl))
 answered-same (refused x) h = refl
 
+-- what rule 1 accepts has such a type id
+module _ (d : List ℕ) (o : Octets d) (m : Reference) (n : ℕ) where
+  pub leading-multiple : readLeading Multiple d ≡ ok m n → length (m .typeId) % 4 ≡ 0
+  leading-multiple e = only-accepted Multiple d o m n e .1 .formed .allowed
+
+  pub whole-multiple : readWhole Multiple d ≡ ok m n → length (m .typeId) % 4 ≡ 0
+  whole-multiple e = only-whole Multiple d o m n e .1 .formed .allowed
+
 read-alike : (d : List ℕ) → Octets d → be (part d 0 4) % 4 ≡ 0 → ReadAlike d
 read-alike d o h =
     record {
-      leading = ap (answered Gap) (leading-same d h) ∙ answered-same (readLeading Multiple d) (λ m n e. only-accepted Multiple d o m n e .1 .formed .allowed);
-      whole = ap (answered Gap) (whole-same d h) ∙ answered-same (readWhole Multiple d) (λ m n e. only-whole Multiple d o m n e .1 .formed .allowed);
+      leading = ap (answered Gap) (leading-same d h) ∙ answered-same (readLeading Multiple d) (leading-multiple d o);
+      whole = ap (answered Gap) (whole-same d h) ∙ answered-same (readWhole Multiple d) (whole-multiple d o);
     }
 
 -- ---- measuring and writing
