@@ -6,18 +6,19 @@ ghost use lib.ListN.{length, getD};
 ghost use Rattle.octets.specs.Octets.{part};
 ghost use mathlib.Core.Bool.{false};
 ghost use Rattle.reference.specs.declared.Check.the-variants.{Pass, Refuse};
+ghost use Rattle.reference.specs.declared.TypeIdRule.the-variants.{Multiple};
 ghost use Rattle.reference.specs.Layout.{gapLength};
 ghost use Rattle.reference.specs.Checks.{both, each};
 ghost use Rattle.reference.specs.Meaning.{sum};
 ghost use Rattle.reference.specs.Tabled.{usedOf};
 ghost use Rattle.reference.specs.Used.{tapsIn, namesIn, extrasIn, ownedOf};
-ghost use Rattle.reference.specs.Writer.{tapSize, measured, usedCheck, sumCheck, counted, countsCheck, viewCheck, entryViews, viewsCheck, shortCheck, extraShort, ownShort, measureCheck};
+ghost use Rattle.reference.specs.Writer.{tapSize, measured, usedCheck, sumCheck, counted, countsCheck, viewCheck, entryViews, viewsCheck, shortCheck, extraShort, ownShort, sizeOf, measureCheck};
 ghost use Rattle.table.specs.Flat.{viewFrom, tablesFrom, profileOfTable, profileRegion, tapRegion, extraRegion, tableSize, Lent, tapsUsed, extrasUsed};
 ghost use Rattle.table.specs.Region.{listed};
 ghost use Rattle.survey.specs.ByTable.{usedIn};
 ghost use Rattle.survey.specs.Seen.{passing, Surveyed};
 ghost use Rattle.faults.specs.Short.{shortHere, Within};
-ghost use Rattle.faults.specs.Judges.{Judges};
+ghost use Rattle.faults.specs.Judges.{Judges, lengthTold};
 use reference::Answer;
 use reference::Check;
 use reference::EXTRAS;
@@ -255,23 +256,42 @@ pub fn length_from(t: &[u32], src: &[u8], rule: TypeIdRule) -> Answer
 }
 
 // What one survey says of a lent table over a source: it is sound, that is exact and nothing that measuring refuses, and its image so long; or what was seen.
+// It is rule 1's word: what another rule adds is the gap.
 pub enum Judged {
     Sound(usize),
     Unsound(Survey),
 }
 
-pub fn judge(t: &[u32], n: usize, rule: TypeIdRule) -> Judged
+pub fn judge(t: &[u32], n: usize) -> Judged
     requires { ⌜ Lent (now t) ⌝ }
-    ensures { λ r. ⌜ Judges rule (now (t .entry)) n r ⌝ }
+    ensures { λ r. ⌜ Judges (now (t .entry)) n r ⌝ }
 {
     let s = survey_of(t, n);
     // Both marks at once; `is_sound` looks at the ends again, which costs nothing.
     if (s.fields | s.ends) < BOUND {
-        if is_sound(s, t, n, rule) {
-            return Judged::Sound(image_size(s, t, rule));
+        if is_sound(s, t, n, TypeIdRule::Multiple) {
+            return Judged::Sound(s.octets);
         }
     }
     Judged::Unsound(s)
+}
+
+// The length under the rule of an image that has `total` octets without a gap; or 10.
+pub fn with_gap(t: &[u32], total: usize, rule: TypeIdRule) -> Answer
+    requires { ⌜ Lent (now t) × (total ≡ sizeOf Multiple (usedIn (now t))) × (total ≤ 65535) ⌝ }
+    ensures { λ r. ⌜ r ≡ lengthTold rule (usedIn (now (t .entry))) ⌝ }
+{
+    match rule {
+        TypeIdRule::Multiple => Answer::Count(total),
+        TypeIdRule::Gap => {
+            let type_id = view_at(t, TYPE_ID);
+            let n = total + gap_length(rule, type_id.len as usize);
+            if MOST < n {
+                return Answer::Refused(too_large(10, n));
+            }
+            Answer::Count(n)
+        }
+    }
 }
 
 // 2: whether a component's length fits one octet.

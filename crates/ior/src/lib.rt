@@ -20,6 +20,7 @@ ghost use Rattle.ior.specs.Today.{measuredFrom, WritesFrom};
 use faults::Judged;
 use faults::judge;
 use faults::refusal_of;
+use faults::with_gap;
 use names::ShortNameRead;
 use reference::AddressWay;
 use reference::Answer;
@@ -33,7 +34,7 @@ use reference::TypeIdRule;
 use reference::wrong;
 use survey::BOUND;
 use table::SIZE;
-use writing::write_measured;
+use writing::write_sound;
 
 // A table of 490 numbers; crate table says which number is what.
 pub const TABLE: usize = SIZE;
@@ -151,8 +152,8 @@ pub fn write_by(t: Tables, src: &[u8], out: &mut [u8], rule: TypeIdRule, way: Ad
 pub fn length_from_by(table: &FlatTable, src: &[u8], rule: TypeIdRule) -> Answer
     ensures { λ r. ⌜ r ≡ Lent.measuredFrom rule (now (table .entry)) (now (src .entry)) ⌝ }
 {
-    match judge(table, src.len(), rule) {
-        Judged::Sound(total) => Answer::Count(total),
+    match judge(table, src.len()) {
+        Judged::Sound(total) => with_gap(table, total, rule),
         Judged::Unsound(found) => {
             if BOUND <= found.fields {
                 return Answer::Refused(wrong(NOT_EXACT, 0));
@@ -171,8 +172,8 @@ pub fn write_from_by(
 ) -> Answer
     ensures { λ r. ⌜ Lent.WritesFrom rule way (now (table .entry)) (now (src .entry)) (now (out .entry)) r (now (out .exit)) ⌝ }
 {
-    match judge(table, src.len(), rule) {
-        Judged::Sound(total) => write_measured(table, src, out, total, rule, way),
+    match judge(table, src.len()) {
+        Judged::Sound(total) => write_sound(table, src, out, total, rule, way),
         Judged::Unsound(found) => {
             if BOUND <= found.fields {
                 return Answer::Refused(wrong(NOT_EXACT, 0));

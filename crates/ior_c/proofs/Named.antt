@@ -61,9 +61,13 @@ module _ {w : ℕ} {P : AddressWay → Type 0} {U : Type 0} where
   pub in-none : w ≢ 1 → U → By wayNumber w P U
   in-none n u = record { named = λ way e. absurd (other-way n way e); other = λ _. u }
 
+-- whatever the number
+pub by-any : {A : Type 0} {number : A → ℕ} {k : ℕ} {P : A → Type 0} {U : Type 0} → ((x : A) → P x) → U → By number k P U
+by-any f u = record { named = λ x e. f x; other = λ _. u }
+
 -- no way was named: whatever the rule
 pub no-way : {k w : ℕ} {P : TypeIdRule → AddressWay → Type 0} {U : Type 0} → w ≢ 1 → U → By ruleNumber k (λ rule. By wayNumber w (P rule) U) U
-no-way n u = record { named = λ rule e. in-none n u; other = λ _. u }
+no-way n u = by-any (λ rule. in-none n u) u
 
 pub by-determined : {A : Type 0} (number : A → ℕ) (k : ℕ) → ((k : ℕ) → Named number k) → {P P′ : A → Type 0} {U U′ Same : Type 0} → ((x : A) → P x → P′ x → Same) → (U → U′ → Same)
     → By number k P U → By number k P′ U′ → Same

@@ -13,6 +13,7 @@ ghost use Rattle.ior_c.specs.Said.{answerSize, numberOf, numbersOf, size
 use faults::Judged;
 use faults::judge;
 use faults::refusal_of;
+use faults::with_gap;
 use names::ShortNameRead;
 use names::read_short_name;
 use names::write_short_name;
@@ -41,7 +42,7 @@ use table::SIZE;
 use table::number_at;
 use table::put_all;
 use table_entries::sort_at;
-use writing::write_measured;
+use writing::write_sound;
 
 // What each function answers when an array has another length than it must have, or a table is not exact.
 pub const NOT_ASKED: u32 = 255;
@@ -109,7 +110,7 @@ fn can_ask(table: &[u32], answer: usize) -> bool
 
 // ---- references, under a rule
 
-fn read_under(s: &[u8], table: &mut [u32], answer: &mut [u64], rule: TypeIdRule) -> u32
+fn read_under(rule: TypeIdRule, s: &[u8], table: &mut [u32], answer: &mut [u64]) -> u32
     ensures { λ r. ⌜ Calls.IorRead rule (now (s .entry)) (now (table .entry)) (now (answer .entry)) r (now (answer .exit)) (now (table .exit)) ⌝ }
 {
     if !is_sized(SIZE, table.len(), answer.len()) {
@@ -118,7 +119,7 @@ fn read_under(s: &[u8], table: &mut [u32], answer: &mut [u64], rule: TypeIdRule)
     put_answer(read_leading_into_by(s, table, rule), answer)
 }
 
-fn read_whole_under(s: &[u8], table: &mut [u32], answer: &mut [u64], rule: TypeIdRule) -> u32
+fn read_whole_under(rule: TypeIdRule, s: &[u8], table: &mut [u32], answer: &mut [u64]) -> u32
     ensures { λ r. ⌜ Calls.IorReadWhole rule (now (s .entry)) (now (table .entry)) (now (answer .entry)) r (now (answer .exit)) (now (table .exit)) ⌝ }
 {
     if !is_sized(SIZE, table.len(), answer.len()) {
@@ -127,14 +128,14 @@ fn read_whole_under(s: &[u8], table: &mut [u32], answer: &mut [u64], rule: TypeI
     put_answer(read_whole_into_by(s, table, rule), answer)
 }
 
-fn length_under(table: &[u32], s: &[u8], answer: &mut [u64], rule: TypeIdRule) -> u32
+fn length_under(rule: TypeIdRule, table: &[u32], s: &[u8], answer: &mut [u64]) -> u32
     ensures { λ r. ⌜ Calls.IorLength rule (now (table .entry)) (now (s .entry)) (now (answer .entry)) r (now (answer .exit)) ⌝ }
 {
     if !is_sized(SIZE, table.len(), answer.len()) {
         return NOT_ASKED;
     }
-    match judge(table, s.len(), rule) {
-        Judged::Sound(total) => put_answer(Answer::Count(total), answer),
+    match judge(table, s.len()) {
+        Judged::Sound(total) => put_answer(with_gap(table, total, rule), answer),
         Judged::Unsound(found) => {
             if BOUND <= found.fields {
                 return NOT_ASKED;
@@ -147,23 +148,19 @@ fn length_under(table: &[u32], s: &[u8], answer: &mut [u64], rule: TypeIdRule) -
     }
 }
 
-fn write_under(
+fn write_lent(
+    rule: TypeIdRule,
+    way: AddressWay,
     table: &[u32],
     s: &[u8],
     out: &mut [u8],
     answer: &mut [u64],
-    rule: TypeIdRule,
-    way: AddressWay,
 ) -> u32
+    requires { ⌜ Lent (now table) × (length (now answer) ≡ answerSize) ⌝ }
     ensures { λ r. ⌜ Calls.IorWrite rule way (now (table .entry)) (now (s .entry)) (now (out .entry)) (now (answer .entry)) r (now (answer .exit)) (now (out .exit)) ⌝ }
 {
-    if !is_sized(SIZE, table.len(), answer.len()) {
-        return NOT_ASKED;
-    }
-    match judge(table, s.len(), rule) {
-        Judged::Sound(total) => {
-            put_answer(write_measured(table, s, out, total, rule, way), answer)
-        }
+    match judge(table, s.len()) {
+        Judged::Sound(total) => put_answer(write_sound(table, s, out, total, rule, way), answer),
         Judged::Unsound(found) => {
             if BOUND <= found.fields {
                 return NOT_ASKED;
@@ -174,6 +171,22 @@ fn write_under(
             )
         }
     }
+}
+
+// The same, with both slices taken anew: one that is handed on as it came is copied whole, right behind the stores of its two halves, and a processor waits
+// for those.
+fn write_under(
+    rule: TypeIdRule,
+    way: AddressWay,
+    table: &[u32],
+    s: &[u8],
+    out: &mut [u8],
+    answer: &mut [u64],
+) -> u32
+    requires { ⌜ Lent (now table) × (length (now answer) ≡ answerSize) ⌝ }
+    ensures { λ r. ⌜ Calls.IorWrite rule way (now (table .entry)) (now (s .entry)) (now (out .entry)) (now (answer .entry)) r (now (answer .exit)) (now (out .exit)) ⌝ }
+{
+    write_lent(rule, way, &table[..SIZE], &s[..s.len()], out, answer)
 }
 
 // ---- references
@@ -184,7 +197,7 @@ fn write_under(
 pub extern "C" fn ior_read(s: &[u8], table: &mut [u32], answer: &mut [u64]) -> u32
     ensures { λ r. ⌜ IorRead (now (s .entry)) (now (table .entry)) (now (answer .entry)) r (now (answer .exit)) (now (table .exit)) ⌝ }
 {
-    read_under(s, table, answer, TypeIdRule::Multiple)
+    read_under(TypeIdRule::Multiple, s, table, answer)
 }
 
 // The same of a whole slice: nothing may be left over.
@@ -192,7 +205,7 @@ pub extern "C" fn ior_read(s: &[u8], table: &mut [u32], answer: &mut [u64]) -> u
 pub extern "C" fn ior_read_whole(s: &[u8], table: &mut [u32], answer: &mut [u64]) -> u32
     ensures { λ r. ⌜ IorReadWhole (now (s .entry)) (now (table .entry)) (now (answer .entry)) r (now (answer .exit)) (now (table .exit)) ⌝ }
 {
-    read_whole_under(s, table, answer, TypeIdRule::Multiple)
+    read_whole_under(TypeIdRule::Multiple, s, table, answer)
 }
 
 // The length of the image of the table over the source s; or 6, 8, 9 or 10. One pass over the table finds whether it is exact, and the length.
@@ -200,7 +213,7 @@ pub extern "C" fn ior_read_whole(s: &[u8], table: &mut [u32], answer: &mut [u64]
 pub extern "C" fn ior_length(table: &[u32], s: &[u8], answer: &mut [u64]) -> u32
     ensures { λ r. ⌜ IorLength (now (table .entry)) (now (s .entry)) (now (answer .entry)) r (now (answer .exit)) ⌝ }
 {
-    length_under(table, s, answer, TypeIdRule::Multiple)
+    length_under(TypeIdRule::Multiple, table, s, answer)
 }
 
 // Writes the image of the table over the source s at the start of `out`: its length, or the refusal, which leaves `out` as it is.
@@ -208,13 +221,16 @@ pub extern "C" fn ior_length(table: &[u32], s: &[u8], answer: &mut [u64]) -> u32
 pub extern "C" fn ior_write(table: &[u32], s: &[u8], out: &mut [u8], answer: &mut [u64]) -> u32
     ensures { λ r. ⌜ IorWrite (now (table .entry)) (now (s .entry)) (now (out .entry)) (now (answer .entry)) r (now (answer .exit)) (now (out .exit)) ⌝ }
 {
+    if !is_sized(SIZE, table.len(), answer.len()) {
+        return NOT_ASKED;
+    }
     write_under(
+        TypeIdRule::Multiple,
+        AddressWay::Constants,
         table,
         s,
         out,
         answer,
-        TypeIdRule::Multiple,
-        AddressWay::Constants,
     )
 }
 
@@ -226,10 +242,10 @@ pub extern "C" fn ior_read_by(rule: u32, s: &[u8], table: &mut [u32], answer: &m
     ensures { λ r. ⌜ IorReadBy rule (now (s .entry)) (now (table .entry)) (now (answer .entry)) r (now (answer .exit)) (now (table .exit)) ⌝ }
 {
     if rule == MULTIPLE {
-        return read_under(s, table, answer, TypeIdRule::Multiple);
+        return read_under(TypeIdRule::Multiple, s, table, answer);
     }
     if rule == GAP {
-        return read_under(s, table, answer, TypeIdRule::Gap);
+        return read_under(TypeIdRule::Gap, s, table, answer);
     }
     NOT_ASKED
 }
@@ -244,10 +260,10 @@ pub extern "C" fn ior_read_whole_by(
     ensures { λ r. ⌜ IorReadWholeBy rule (now (s .entry)) (now (table .entry)) (now (answer .entry)) r (now (answer .exit)) (now (table .exit)) ⌝ }
 {
     if rule == MULTIPLE {
-        return read_whole_under(s, table, answer, TypeIdRule::Multiple);
+        return read_whole_under(TypeIdRule::Multiple, s, table, answer);
     }
     if rule == GAP {
-        return read_whole_under(s, table, answer, TypeIdRule::Gap);
+        return read_whole_under(TypeIdRule::Gap, s, table, answer);
     }
     NOT_ASKED
 }
@@ -257,10 +273,10 @@ pub extern "C" fn ior_length_by(rule: u32, table: &[u32], s: &[u8], answer: &mut
     ensures { λ r. ⌜ IorLengthBy rule (now (table .entry)) (now (s .entry)) (now (answer .entry)) r (now (answer .exit)) ⌝ }
 {
     if rule == MULTIPLE {
-        return length_under(table, s, answer, TypeIdRule::Multiple);
+        return length_under(TypeIdRule::Multiple, table, s, answer);
     }
     if rule == GAP {
-        return length_under(table, s, answer, TypeIdRule::Gap);
+        return length_under(TypeIdRule::Gap, table, s, answer);
     }
     NOT_ASKED
 }
@@ -280,24 +296,27 @@ pub extern "C" fn ior_write_by(
     if way != CONSTANTS {
         return NOT_ASKED;
     }
+    if !is_sized(SIZE, table.len(), answer.len()) {
+        return NOT_ASKED;
+    }
     if rule == MULTIPLE {
         return write_under(
+            TypeIdRule::Multiple,
+            AddressWay::Constants,
             table,
             s,
             out,
             answer,
-            TypeIdRule::Multiple,
-            AddressWay::Constants,
         );
     }
     if rule == GAP {
         return write_under(
+            TypeIdRule::Gap,
+            AddressWay::Constants,
             table,
             s,
             out,
             answer,
-            TypeIdRule::Gap,
-            AddressWay::Constants,
         );
     }
     NOT_ASKED

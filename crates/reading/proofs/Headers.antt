@@ -108,6 +108,9 @@ module _ (rule : TypeIdRule) (n : ℕ) (d : List ℕ) (at : ℕ) {k : ℕ} (few 
         let q : eqb (be (blank k)) (be (blank k)) ≡ true = eq-eqb (be (blank k)) (be (blank k)) refl in
         (simp (← few, yes, le-ltb, q), omega arith)
 
+  pub gap-none : k ≡ 0 → at ≤ length d → GapIn rule n d at Pass
+  gap-none z h = gap-right (omega (arith, z, h)) true (subst (λ (i : ℕ). part d at i ≡ blank i) (sym z) refl) refl
+
 -- ---- and the profile count
 
 module _ (rule : TypeIdRule) (d : List ℕ) {n : ℕ} (k : LengthKnown rule d n) where

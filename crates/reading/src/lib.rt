@@ -142,6 +142,9 @@ fn check_gap(d: &[u8], at: usize, len: usize, rule: TypeIdRule) -> Check
     ensures { λ r. ⌜ GapIn rule len (now (d .entry)) at r ⌝ }
 {
     let k = gap_length(rule, len);
+    if k == 0 {
+        return Check::Pass;
+    }
     let end = d.len();
     if end < at + k {
         return Check::Refuse(cut(PLACE_GAP, at, k, end));

@@ -1,9 +1,12 @@
 -- The rule for type ids: the lengths that it allows, and the gap behind a type id. Assumes nothing.
-use Prim.Native.Nat.{ℕ, _%_, _^_, _<_}
+use Prim.Native.Nat.{ℕ, _-_, _%_, _^_, _<_}
 use mathlib.Core.Path.{_≡_, refl, sym, ap, _∙_, subst}
+use mathlib.Core.Logic.{_≢_}
+use mathlib.Core.Bool.{true, false}
 use native.Mathlib.Omega.{arith}
 use lib.ListN.{length}
 use lib.Dec.{T, eqb→eq}
+use borrow.Author.Tests.{ne-eqb}
 use Rattle.octets.specs.Octets.{Octets, be, octets}
 use Rattle.reference.specs.declared.TypeIdRule.{TypeIdRule}
 use Rattle.reference.specs.declared.TypeIdRule.the-variants.{Multiple, Gap}
@@ -37,3 +40,16 @@ module _ (rule : TypeIdRule) (n : ℕ) where
 pub no-gap : (rule : TypeIdRule) (n : ℕ) → n % 4 ≡ 0 → gapLength rule n ≡ 0
 no-gap Multiple n e = refl
 no-gap Gap n e = omega arith
+
+-- and each rule allows one
+pub multiple-allowed : (rule : TypeIdRule) (n : ℕ) → n % 4 ≡ 0 → allowed rule n ≡ true
+multiple-allowed Multiple n e = rw e
+multiple-allowed Gap n e = refl
+
+-- any other length needs a gap, and rule 1 refuses it
+module _ (n : ℕ) (h : n % 4 ≢ 0) where
+  pub gap-needed : gapLength Gap n ≡ 4 - n % 4
+  gap-needed = omega (arith, h)
+
+  pub other-refused : allowed Multiple n ≡ false
+  other-refused = ne-eqb (n % 4) 0 h

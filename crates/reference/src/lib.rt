@@ -446,9 +446,13 @@ pub fn view_of(base: usize, at: usize, len: usize) -> View
 pub fn gap_length(rule: TypeIdRule, n: usize) -> usize
     ensures { λ r. ⌜ (r ≡ gapLength rule n) × (r ≤ 3) ⌝ }
 {
+    let past = n % 4;
+    if past == 0 {
+        return 0;
+    }
     match rule {
         TypeIdRule::Multiple => 0,
-        TypeIdRule::Gap => (4 - n % 4) % 4,
+        TypeIdRule::Gap => 4 - past,
     }
 }
 
@@ -456,8 +460,11 @@ pub fn gap_length(rule: TypeIdRule, n: usize) -> usize
 pub fn allows(rule: TypeIdRule, n: usize) -> bool
     ensures { λ r. ⌜ r ≡ allowed rule n ⌝ }
 {
+    if n % 4 == 0 {
+        return true;
+    }
     match rule {
-        TypeIdRule::Multiple => n % 4 == 0,
+        TypeIdRule::Multiple => false,
         TypeIdRule::Gap => true,
     }
 }

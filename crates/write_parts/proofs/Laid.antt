@@ -1,5 +1,5 @@
 -- How runs that were put become the fields of a layout: behind their length, behind a header, and a header put after its data. Assumes nothing.
-use mathlib.Core.Path.{_≡_, refl, sym, ap, _∙_}
+use mathlib.Core.Path.{_≡_, refl, sym, ap, _∙_, subst}
 use Prim.Native.Nat.{ℕ, _+_, _-_, _≤_}
 use native.Mathlib.Omega.{arith}
 use mathlib.Core.List.{List, [], _++_, append-assoc, append-nil}
@@ -8,7 +8,7 @@ use Rattle.octets.specs.Octets.{octets, splice}
 use Rattle.octets.specs.Put.{Put}
 use Rattle.octets.proofs.Splice.{splice-splice, splice-comm}
 use Rattle.octets.proofs.Part.{length-part}
-use Rattle.octets.proofs.Put.{then, same}
+use Rattle.octets.proofs.Put.{kept, none, then, same}
 use Rattle.octets.specs.Blank.{blank}
 use Rattle.reference.specs.declared.TypeIdRule.{TypeIdRule}
 use Rattle.reference.specs.declared.View.{View}
@@ -61,6 +61,12 @@ pub with-gap : (rule : TypeIdRule) (s : List ℕ) (v : View) → Within (length 
 with-gap rule s v h g p q =
     let n : gapLength rule (v .len) ≡ gapLength rule (length (shown s v)) = ap (gapLength rule) (sym (length-part s (v .at) (v .len) h)) in
     onto 4 (shown s v) p (last (same q g (ap blank (g ∙ n)) refl))
+
+-- where there is none, the type id's octets are all
+pub without-gap : (rule : TypeIdRule) (s : List ℕ) (v : View) → Within (length s) v → {d e : List ℕ} {at k r : ℕ} → k ≡ gapLength rule (v .len) → k ≡ 0
+    → Put d at (4 + v .len) (prefixed 4 (shown s v)) e r → Put d at (4 + v .len + gapLength rule (v .len)) (gapped rule (shown s v)) e r
+without-gap rule s v h {e = e} {r = r} g z p =
+    with-gap rule s v h g p (subst (λ (i : ℕ). Put e r i (blank i) e r) (sym z) (none e r (omega (arith, p .next, p .room, kept p))))
 
 pub onto-gap : (rule : TypeIdRule) (l : List ℕ) {d e zs f : List ℕ} {at m r n s : ℕ} → Put d at m (gapped rule l) e r → Put e r n zs f s
     → Put d at (m + n) (octets 4 (length l) ++ (l ++ (gap rule (length l) ++ zs))) f s

@@ -66,7 +66,11 @@ pub fn write_type_id(
     ensures { λ r. ⌜ Put (now (out .entry)) at (4 + «type_id» .len + gapLength rule («type_id» .len)) (gapped rule (shown (now (src .entry)) «type_id»)) (now (out .exit)) r ⌝ }
 {
     let a = write_run(type_id, src, out, at);
-    put_blank(out, a, gap_length(rule, type_id.len as usize))
+    let k = gap_length(rule, type_id.len as usize);
+    if k == 0 {
+        return a;
+    }
+    put_blank(out, a, k)
 }
 
 pub fn write_tap(tap: Tap, src: &[u8], out: &mut [u8], at: usize) -> usize

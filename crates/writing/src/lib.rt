@@ -10,6 +10,7 @@ ghost use Rattle.reference.specs.Layout.{layoutProfile};
 ghost use Rattle.reference.specs.Tabled.{usedOf};
 ghost use Rattle.reference.specs.Used.{ownedOf};
 ghost use Rattle.reference.specs.Today.{profileOf, measured};
+ghost use Rattle.reference.specs.declared.TypeIdRule.the-variants.{Multiple};
 ghost use Rattle.reference.specs.declared.AddressWay.the-variants.{Constants};
 ghost use Rattle.reference.specs.Checks.{both, each};
 ghost use Rattle.reference.specs.Meaning.{sum};
@@ -25,6 +26,7 @@ use faults::image_size;
 use faults::is_sound;
 use faults::length_from;
 use faults::refusal_of;
+use faults::with_gap;
 use octets::put32;
 use reference::AddressWay;
 use reference::Answer;
@@ -203,6 +205,24 @@ pub fn write_measured(
     }
     match way {
         AddressWay::Constants => Answer::Count(write_image(t, src, out, rule)),
+    }
+}
+
+// The same of a table that rule 1 measures with `total` octets: the rule's gap comes on top, and with it 10.
+pub fn write_sound(
+    t: &[u32],
+    src: &[u8],
+    out: &mut [u8],
+    total: usize,
+    rule: TypeIdRule,
+    way: AddressWay,
+) -> Answer
+    requires { ⌜ Lent (now t) × (measureCheck Multiple (tablesFrom (now t)) (length (now src)) ≡ Pass) × (total ≡ sizeOf Multiple (usedOf (tablesFrom (now t)))) ⌝ }
+    ensures { λ r. ⌜ By.Writes rule way (tablesFrom (now (t .entry))) (now (src .entry)) (now (out .entry)) r (now (out .exit)) ⌝ }
+{
+    match with_gap(t, total, rule) {
+        Answer::Count(n) => write_measured(t, src, out, n, rule, way),
+        Answer::Refused(why) => Answer::Refused(why),
     }
 }
 

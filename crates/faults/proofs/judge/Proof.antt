@@ -11,20 +11,17 @@ survey-of-requires c κs = search needs
 is-sound-requires : tie.Need-is-sound-requires
 is-sound-requires c κs = search needs
 
-image-size-requires : tie.Need-image-size-requires
-image-size-requires c κs = let v = c .before .before .before .before in (v .before .before .pre, v .survey-of .ensures .bounded)
-
 returns : tie.Need-returns
 returns c =
-    let s = c .before .before in
+    let s = c .before in
     let i = s .before in
-    judge-sound _ _ (i .before .before .survey-of .ensures) (i .if1 .taken) (sym (s .is-sound .ensures) ∙ c .before .if2 .taken) (c .image-size .ensures)
+    judge-sound _ (i .before .before .survey-of .ensures) (i .if1 .taken) (sym (s .is-sound .ensures) ∙ c .if2 .taken)
 
 returns-2 : tie.Need-returns-2
-returns-2 c = judge-refused _ _ (c .before .before .before .before .survey-of .ensures) (sym (c .before .is-sound .ensures) ∙ c .if2 .left)
+returns-2 c = judge-refused _ (c .before .before .before .before .survey-of .ensures) (sym (c .before .is-sound .ensures) ∙ c .if2 .left)
 
 returns-3 : tie.Need-returns-3
-returns-3 c = judge-marked _ _ (c .before .before .survey-of .ensures) (c .if1 .left)
+returns-3 c = judge-marked _ (c .before .before .survey-of .ensures) (c .if1 .left)
 
 pub judge-spec : {M : Type 1} → statement M
-judge-spec = tie.close (tie.spec survey-of-requires is-sound-requires image-size-requires returns returns-2 returns-3)
+judge-spec = tie.close (tie.spec survey-of-requires is-sound-requires returns returns-2 returns-3)

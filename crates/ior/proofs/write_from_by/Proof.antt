@@ -14,10 +14,10 @@ judge-requires c κs = search needs
 enum-known-total : tie.Need-enum-known-total
 enum-known-total c = search needs
 
-write-measured-requires : tie.Need-write-measured-requires
-write-measured-requires c κs =
+write-sound-requires : tie.Need-write-sound-requires
+write-sound-requires c κs =
     let t = c .before .before .before in
-    let (x, p, e) = sound-says _ _ _ (t .before .before .judge .ensures) (t .total .given .1) in
+    let (x, p, e) = sound-says _ _ (t .before .before .judge .ensures) (t .total .given .1) in
     (search needs, p, e)
 
 enum-known-found : tie.Need-enum-known-found
@@ -30,13 +30,13 @@ returns : tie.Need-returns
 returns c =
     let i = c .before in
     let f = i .before .before .before in
-    refuses-inexact _ _ (cut _ _ _ (f .before .before .judge .ensures) (f .found .given .1) (i .if1 .taken)) (ap Refused (c .wrong .ensures))
+    refuses-inexact _ _ (cut _ _ (f .before .before .judge .ensures) (f .found .given .1) (i .if1 .taken)) (ap Refused (c .wrong .ensures))
 
 refusal-of-requires : tie.Need-refusal-of-requires
 refusal-of-requires c κs =
     let i = c .before in
     let f = i .before .before .before in
-    may-refuse _ _ _ (f .before .before .judge .ensures) (f .found .given .1) (i .if1 .left) (search needs)
+    may-refuse _ _ (f .before .before .judge .ensures) (f .found .given .1) (i .if1 .left) _ (search needs)
 
 same-length : tie.Need-same-length
 same-length c = search needs
@@ -45,13 +45,13 @@ returns-2 : tie.Need-returns-2
 returns-2 c =
     let w = c .before .before in
     let t = w .before .before .before .before in
-    writes-exact _ _ (sound-says _ _ _ (t .before .before .judge .ensures) (t .total .given .1) .0) (w .write-measured .ensures)
+    writes-exact _ _ (sound-says _ _ (t .before .before .judge .ensures) (t .total .given .1) .0) (w .write-sound .ensures)
 
 returns-3 : tie.Need-returns-3
 returns-3 c =
     let i = c .before .before in
     let f = i .before .before .before in
-    writes-exact _ _ (fits _ _ _ (f .before .before .judge .ensures) (f .found .given .1) (i .if1 .left))
+    writes-exact _ _ (fits _ _ (f .before .before .judge .ensures) (f .found .given .1) (i .if1 .left))
     (refuses _ _ _ _ _ (measure-refuses _ _ _ _ (c .refusal-of .ensures)))
 
 pub write-from-by-spec : {M : Type 1} → statement M
@@ -60,7 +60,7 @@ write-from-by-spec =
     (tie.spec
     judge-requires
     enum-known-total
-    write-measured-requires
+    write-sound-requires
     enum-known-found
     wrong-requires
     returns

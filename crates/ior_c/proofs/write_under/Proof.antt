@@ -1,60 +1,37 @@
--- `ior_c::write_under` meets its contract. One judgement tells whether the table is exact, and what is written. Assumes nothing.
+-- `ior_c::write_under` meets its contract. Both slices, taken anew as long as they are, are the same. Assumes nothing.
 use borrow.Author.Needs.{needs}
-use borrow.Author.Tests.{not-true, not-false}
-use mathlib.Core.Path.{_≡_, sym, _∙_}
-use mathlib.Core.Bool.{true}
-use lib.ListN.{length}
-use Rattle.table.specs.Flat.{tablesFrom, tableSize}
-use Rattle.faults.proofs.Judging.{sound-says, cut, fits, may-refuse}
-use Rattle.writing.proofs.Answers.{measure-refuses, refuses}
-use Rattle.ior_c.specs.Said.{sized}
-use Rattle.ior_c.proofs.Calls.{given, not-given, lengths, not-askable, askable-by-table}
+use Prim.Native.Nat.{ℕ}
+use mathlib.Core.Path.{_≡_, refl, sym, ap, _∙_, subst}
+use mathlib.Core.List.{List}
+use native.Mathlib.Omega.{arith}
+use lib.ListN.{length, take}
+use lib.Seq.{take-all}
+use Rattle.reference.specs.declared.TypeIdRule.{TypeIdRule}
+use Rattle.reference.specs.declared.AddressWay.{AddressWay}
+use Rattle.ior_c.specs.Calls.{IorWrite}
 use Rattle.ior_c.proofs.write_under.Statement.{statement}
 use Rattle.ior_c.proofs.write_under.Tie as tie
 
--- both arrays have their lengths
-is-asked : (i : tie.Else1) → let a = i .before .before .before .before .before .before .args in sized tableSize (length (a .table .now)) (length (a .answer .now)) ≡ true
-is-asked i = sym (i .before .is-sized .ensures) ∙ not-false (i .before .is-sized .result) (i .if1 .left)
+anew : (l : List ℕ) {n : ℕ} → length l ≡ n → take n l ≡ l
+anew l {n} e = take-all n l (omega (arith, e))
 
-is-sized-requires : tie.Need-is-sized-requires
-is-sized-requires c κs = search needs
+same-call : (rule : TypeIdRule) (way : AddressWay) {t t′ s s′ d a : List ℕ} {r : ℕ} {b f : List ℕ} → t ≡ t′ → s ≡ s′ → IorWrite rule way t s d a r b f
+    → IorWrite rule way t′ s′ d a r b f
+same-call rule way {t′ = t′} {s = s} {d = d} {a = a} {r = r} {b = b} {f = f} p q c =
+    subst (λ (x : List ℕ). IorWrite rule way t′ x d a r b f) q (subst (λ (x : List ℕ). IorWrite rule way x s d a r b f) p c)
 
-returns : tie.Need-returns
-returns c = not-given (not-askable _ _ (sym (c .before .is-sized .ensures) ∙ not-true (c .before .is-sized .result) (c .if1 .taken)))
+slice-aggregate-write-lent : tie.Need-slice-aggregate-write-lent
+slice-aggregate-write-lent c =
+    let s = c .before .before .before .before .before in
+    sym (ap length (anew (s .args .table .now) (s .pre .0)) ∙ s .pre .0)
 
-judge-requires : tie.Need-judge-requires
-judge-requires c κs = lengths tableSize _ _ (is-asked c) .0
+slice-aggregate-write-lent-2 : tie.Need-slice-aggregate-write-lent-2
+slice-aggregate-write-lent-2 c = sym (ap length (anew (c .before .before .before .before .before .before .args .s .now) refl))
 
-enum-known-total : tie.Need-enum-known-total
-enum-known-total c = search needs
-
-write-measured-requires : tie.Need-write-measured-requires
-write-measured-requires c κs =
-    let t = c .before .before in
-    let j = t .before .before in
-    let (x, p, e) = sound-says _ _ _ (j .judge .ensures) (t .total .given .1) in
-    (lengths tableSize _ _ (is-asked (j .before)) .0, p, e)
-
-put-answer-requires : tie.Need-put-answer-requires
-put-answer-requires c κs = lengths tableSize _ _ (is-asked (c .before .before .before .before .before .before .before .before .before)) .1
-
-enum-known-found : tie.Need-enum-known-found
-enum-known-found c = search needs
-
-returns-2 : tie.Need-returns-2
-returns-2 c =
-    let f = c .before .before .before in
-    let j = f .before .before in
-    not-given (askable-by-table _ _ (is-asked (j .before)) ∙ cut _ _ _ (j .judge .ensures) (f .found .given .1) (c .if2 .taken))
-
-refusal-of-requires : tie.Need-refusal-of-requires
-refusal-of-requires c κs =
-    let f = c .before .before .before in
-    let j = f .before .before in
-    may-refuse _ _ _ (j .judge .ensures) (f .found .given .1) (c .if2 .left) (lengths tableSize _ _ (is-asked (j .before)) .0)
-
-put-answer-requires-2 : tie.Need-put-answer-requires-2
-put-answer-requires-2 c κs = lengths tableSize _ _ (is-asked (c .before .before .before .before .before .before .before .before)) .1
+write-lent-requires : tie.Need-write-lent-requires
+write-lent-requires c κs =
+    let s = c .before .before .before .before .before .before .before .before in
+    (ap length (anew (s .args .table .now) (s .pre .0)) ∙ s .pre .0, search needs)
 
 same-length : tie.Need-same-length
 same-length c = search needs
@@ -62,43 +39,19 @@ same-length c = search needs
 same-length-2 : tie.Need-same-length-2
 same-length-2 c = search needs
 
-returns-3 : tie.Need-returns-3
-returns-3 c =
-    let w = c .before .before .before .before .before .before in
-    let t = w .before .before .before in
-    let j = t .before .before in
-    given (askable-by-table _ _ (is-asked (j .before)) ∙ sound-says _ _ _ (j .judge .ensures) (t .total .given .1) .0)
-    (w .write-measured .ensures .answers) (c .before .before .put-answer .ensures) (w .write-measured .ensures .leaves)
-
-same-length-3 : tie.Need-same-length-3
-same-length-3 c = search needs
-
-returns-4 : tie.Need-returns-4
-returns-4 c =
-    let r = c .before .before .before .before in
-    let f = r .before .before .before .before in
-    let j = f .before .before in
-    let a = j .before .before .before .before .before .before .before .args in
-    let w = refuses (a .rule) (a .way) (tablesFrom (a .table .now)) (a .s .now) (a .out .now) (measure-refuses _ _ _ _ (r .refusal-of .ensures)) in
-    given (askable-by-table _ _ (is-asked (j .before)) ∙ fits _ _ _ (j .judge .ensures) (f .found .given .1) (r .before .if2 .left))
-    (w .answers) (c .before .before .put-answer2 .ensures) (w .leaves)
+returns : tie.Need-returns
+returns c =
+    let w = c .before .before .before .before in
+    let s = w .before .before .before .before .before .before .before .before .before in
+    same-call (s .args .rule) (s .args .way) (anew (s .args .table .now) (s .pre .0)) (anew (s .args .s .now) refl) (w .write-lent .ensures)
 
 pub write-under-spec : {M : Type 1} → statement M
 write-under-spec =
     tie.close
     (tie.spec
-    is-sized-requires
-    returns
-    judge-requires
-    enum-known-total
-    write-measured-requires
-    put-answer-requires
-    enum-known-found
-    returns-2
-    refusal-of-requires
-    put-answer-requires-2
+    slice-aggregate-write-lent
+    slice-aggregate-write-lent-2
+    write-lent-requires
     same-length
     same-length-2
-    returns-3
-    same-length-3
-    returns-4)
+    returns)
