@@ -7,7 +7,7 @@ use Prim.Native.Nat.{ℕ, _≤_}
 use mathlib.Core.Path.{_≡_, sym, _∙_, subst}
 use mathlib.Core.Bool.{Bool}
 use mathlib.Core.List.{List, [], _∷_, map}
-use mathlib.Core.Logic.{_↔_}
+use mathlib.Core.Logic.{_≢_, _↔_}
 use lib.ListN.{length, take, getD}
 use lib.Dec.{T}
 use Rattle.octets.specs.Octets.{Octets, Each}
@@ -17,9 +17,11 @@ use Rattle.reference.specs.declared.Reading.{Reading}
 use Rattle.reference.specs.declared.Refusal.{Refusal}
 use Rattle.reference.specs.declared.Tables.{Tables}
 use Rattle.reference.specs.Meaning.{Reference, Address}
-use Rattle.reference.specs.declared.TypeIdRule.the-variants.{Multiple}
+use Rattle.reference.specs.declared.TypeIdRule.the-variants.{Multiple, Gap}
+use Rattle.reference.specs.declared.AddressWay.{AddressWay}
 use Rattle.reference.specs.declared.AddressWay.the-variants.{Constants}
 use Rattle.reference.specs.Reader.{readAddress}
+use Rattle.reference.specs.Reader as Reader
 use Rattle.reference.specs.Steps.{seen, ok}
 use Rattle.reference.specs.Today.{Leads, tablesOf, readLeading, readWhole, answered, imageOf, measured, ShowsFields, GivesBack, ReadsBack, Points, Alike}
 use Rattle.reference.specs.Tabled.{tabled, noTables, usedOf}
@@ -29,6 +31,7 @@ use Rattle.reference.specs.Promises.{taking, PutInFront, LengthIsWritten, SameU
 use Rattle.reference.specs.Worked as Table
 use Rattle.reference.proofs.Worked as worked-out
 use Rattle.reference.proofs.Addresses as addresses
+use Rattle.writing.specs.Writes as By
 use Rattle.writing.specs.Today.{Writes}
 use Rattle.reference.specs.declared.NameComponent.{NameComponent}
 use Rattle.reference.specs.Questions.{kindOf, tapNumbersOf, firstBiop, dvbAddress, DvbAddress, dvbOctets}
@@ -42,6 +45,8 @@ use Rattle.names.specs.Told.{shortTold}
 use Rattle.names.specs.Writes as Short
 use Rattle.names.proofs.Promises as names
 use Rattle.reference.proofs.Rules as agreeing
+use Rattle.reference.proofs.Blame as blame
+use Rattle.reference.proofs.Measured as measuredly
 use Rattle.ior.proofs.Rules as rules
 
 module _ (s : List ℕ) (o : Octets s) where
@@ -143,6 +148,16 @@ whole-blamed = rules.whole-blamed Multiple
 -- tables; in measuring and writing, of tables with such a type id, and the output is left the same.
 pub rules-agree : RulesAgree
 rules-agree = agreeing.rules-agree
+
+-- Under rule 2 no length of a type id is refused: 4 with place 33 isn't given in reading, and no 4 in writing.
+pub any-length-read : (s : List ℕ) (r : Reading) → r ≡ Reader.answered Gap (Reader.readLeading Gap s) → (x : Refusal) → r .answer ≡ Refused x → x .number ≡ 4 → x .place ≢ 33
+any-length-read s r c x h = blame.any-length s x (rules.offset-inside Gap s r c x h)
+
+pub any-length-read-whole : (s : List ℕ) (r : Reading) → r ≡ Reader.answered Gap (Reader.readWhole Gap s) → (x : Refusal) → r .answer ≡ Refused x → x .number ≡ 4 → x .place ≢ 33
+any-length-read-whole s r c x h = blame.any-length s x (rules.whole-offset-inside Gap s r c x h)
+
+pub any-length-written : (way : AddressWay) (t : Tables) (s d : List ℕ) (r : Told) (e : List ℕ) → By.Writes Gap way t s d r e → (x : Refusal) → r ≡ Refused x → x .number ≢ 4
+any-length-written way t s d r e w x h = measuredly.any-length-written t s d x (sym (w .answers) ∙ h)
 
 -- P1 to P11 of document 01: each question of the table is answered as 01 says.
 pub worked : map (λ q. Table.reply (q .0)) Table.cases ≡ map (λ q. q .1) Table.cases

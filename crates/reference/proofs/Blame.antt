@@ -3,7 +3,7 @@
 use Prim.Native.Nat.{ℕ, _+_, _≤_}
 use mathlib.Core.Path.{_≡_, refl, sym, ap, _∙_, subst}
 use mathlib.Core.Bool.{Bool, true, false, not}
-use mathlib.Core.Logic.{_⊎_, inl, inr, ⊎-elim}
+use mathlib.Core.Logic.{_≢_, _⊎_, inl, inr, ⊎-elim}
 use mathlib.Core.List.{List, [], _∷_}
 use native.Mathlib.Omega.{arith}
 use lib.ListN.{length}
@@ -11,7 +11,7 @@ use lib.Dec.{T, ltb, eqb, le→leb}
 use Rattle.octets.specs.Octets.{part, be}
 use Rattle.reference.specs.declared.Refusal.{Refusal}
 use Rattle.reference.specs.declared.TypeIdRule.{TypeIdRule}
-use Rattle.reference.specs.declared.TypeIdRule.the-variants.{Multiple}
+use Rattle.reference.specs.declared.TypeIdRule.the-variants.{Multiple, Gap}
 use Rattle.reference.specs.Meaning.{Profile, Reference, tapsOf, namesOf, extrasOf, sum}
 use Rattle.reference.specs.Layout.{allowed, gapLength, gap}
 use Rattle.reference.specs.Steps.{Answer, ok, refused, Reader, pick, followed, done, run, ending, many, after}
@@ -193,3 +193,8 @@ unfolding readWhole ending
 whole-blamed rule d e x a l q =
     sized-blamed rule d e (ending place-reference-leftover (readReference rule)) x a l
     (λ p. ending-no e 0 (length e) place-reference-leftover (readReference rule) (reference-blamed rule d e x a l (ending-wrong place-reference-leftover (length d) (readReference rule d 0 (length d)) (wrongs (x .number) a .0) p))) q
+
+-- ---- rule 2 finds no length of a type id wrong
+
+pub any-length : (d : List ℕ) (x : Refusal) → Points Gap d x → x .number ≡ 4 → x .place ≢ place-type-id-length
+any-length d x p n e = subst (λ (place : ℕ). T (not (fieldIn Gap d place .must (be (part d (x .offset) (widthIn Gap d place)))))) e (p .wrong (inr (inl n)))
