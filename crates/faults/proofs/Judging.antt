@@ -21,8 +21,8 @@ use Rattle.reference.specs.Layout.{gapLength}
 use Rattle.reference.specs.Refusals.{refusal}
 use Rattle.reference.specs.Used.{Used}
 use Rattle.reference.specs.Tabled.{usedOf}
-use Rattle.reference.specs.Writer.{sizeOf, told, sourceCheck, countsCheck, viewsCheck, imageCheck, measureCheck, measured}
-use Rattle.reference.proofs.Checks.{go, passes, passed, test-le, le-test, lt-test}
+use Rattle.reference.specs.Writer.{sizeOf, told, viewsCheck, imageCheck, measureCheck, measured}
+use Rattle.reference.proofs.Checks.{le-test, lt-test}
 use Rattle.reference.proofs.Measured.{told-refused}
 use Rattle.reference.proofs.Written.{count-pass}
 use Rattle.table.specs.Flat.{viewFrom, tablesFrom, Lent}
@@ -36,7 +36,7 @@ use Rattle.faults.specs.declared.Judged.{Judged}
 use Rattle.faults.specs.declared.Judged.the-variants.{Sound, Unsound}
 use Rattle.faults.specs.Judges.{Judges, lengthTold}
 use Rattle.faults.proofs.ByTable.{octets-told}
-use Rattle.faults.proofs.Order.{passed-pass, counts-passed}
+use Rattle.faults.proofs.Order.{passed-pass, at-image, each-passes}
 
 module _ (rule : TypeIdRule) where
   -- ---- measuring's answer, by what its check finds
@@ -54,11 +54,9 @@ module _ (rule : TypeIdRule) where
 
   -- where measuring passes, the views lie within as much of the source as counts
   views-passed : (t : List ℕ) (n : ℕ) → measureCheck rule (tablesFrom t) n ≡ Pass → passing (viewsCheck (min n 65535) (usedIn t)) ≡ true
-  unfolding measureCheck
   views-passed t n e =
-      let (source, rest) = passes (sourceCheck n) _ e in
-      let (views, image) = passes _ _ (passes (countsCheck (tablesFrom t)) _ rest .1) in
-      ap (λ (m : ℕ). passing (viewsCheck m (usedIn t))) (min-eq-left (test-le n 65535 _ source)) ∙ ap passing views
+      let (source, counts, views, image) = each-passes rule (tablesFrom t) n e in
+      ap (λ (m : ℕ). passing (viewsCheck m (usedIn t))) (min-eq-left source) ∙ ap passing views
 
 -- not both, if not both of a and what c implies
 not-both : (a b : Bool) (c : Check) → (c ≡ Pass → b ≡ true) → (a && b) ≡ false → (a && passing c) ≡ false
@@ -72,7 +70,7 @@ fails false e = refl
 
 pub passed-octets : (rule : TypeIdRule) (n : ℕ) {t : List ℕ} {s : Survey} → Surveyed (min n 65535) t s → passing (measureCheck rule (tablesFrom t) n) ≡ true
     → {x : ℕ} → x ≡ s .octets + gapLength rule (viewFrom t 0 .len) → (measureCheck rule (tablesFrom t) n ≡ Pass) × (x ≡ sizeOf rule (usedIn t))
-passed-octets rule n k e q = let p = passed-pass _ e in (p, octets-told rule k (counts-passed rule _ n p) q)
+passed-octets rule n k e q = let p = passed-pass _ e in (p, octets-told rule k (each-passes rule _ n p .1) q)
 
 module _ (n : ℕ) {t : List ℕ} {s : Survey} (k : Surveyed (min n 65535) t s) where
   marks : holds (bitOr (s .fields) (s .ends)) ≡ (exact t && passing (viewsCheck (min n 65535) (usedIn t)))
@@ -117,25 +115,13 @@ module _ (t : List ℕ) {total : ℕ} (e : total ≡ sizeOf Multiple (usedIn t))
 module _ (rule : TypeIdRule) (t : Tables) (n : ℕ) where
   -- where rule 1 passes, each rule's measuring is left with the image's length
   pub left-to-image : measureCheck Multiple t n ≡ Pass → measureCheck rule t n ≡ imageCheck (sizeOf rule (usedOf t))
-  unfolding measureCheck
-  left-to-image e =
-      let (source, counted) = passes (sourceCheck n) _ e in
-      let (counts, viewed) = passes (countsCheck t) _ counted in
-      go _ _ source ∙ go _ _ counts ∙ go _ _ (passes (viewsCheck n (usedOf t)) _ viewed .0)
+  left-to-image e = let (source, counts, views, image) = each-passes Multiple t n e in at-image rule t n source counts views
 
   first-passes : measureCheck rule t n ≡ Pass → measureCheck Multiple t n ≡ Pass
-  unfolding measureCheck
   first-passes e =
-      let (source, counted) = passes (sourceCheck n) _ e in
-      let (counts, viewed) = passes (countsCheck t) _ counted in
-      let (views, image) = passes (viewsCheck n (usedOf t)) _ viewed in
+      let (source, counts, views, image) = each-passes rule t n e in
       let size = gap-added rule (usedOf t) in
-      let most = test-le (sizeOf rule (usedOf t)) 65535 _ image in
-      passed source (passed counts (passed views (le-test (sizeOf Multiple (usedOf t)) 65535 _ (omega (arith, size, most)))))
-
-  image-left : measureCheck rule t n ≡ Pass → sizeOf rule (usedOf t) ≤ 65535
-  unfolding measureCheck
-  image-left e = test-le (sizeOf rule (usedOf t)) 65535 _ (passes (viewsCheck n (usedOf t)) _ (passes (countsCheck t) _ (passes (sourceCheck n) _ e .1) .1) .1)
+      at-image Multiple t n source counts views ∙ le-test (sizeOf Multiple (usedOf t)) 65535 _ (omega (arith, size, image))
 
   -- and what rule 1 refuses, each rule refuses
   pub each-refuses : passing (measureCheck Multiple t n) ≡ false → passing (measureCheck rule t n) ≡ false
@@ -146,7 +132,7 @@ module _ (rule : TypeIdRule) (t : Tables) (n : ℕ) where
       by-check (Refuse r) p = refl
 
 pub passed-limit : (t : Tables) (n : ℕ) {x : ℕ} → measureCheck Multiple t n ≡ Pass → x ≡ sizeOf Multiple (usedOf t) → x ≤ 65535
-passed-limit t n p e = subst (λ (k : ℕ). k ≤ 65535) (sym e) (image-left Multiple t n p)
+passed-limit t n p e = subst (λ (k : ℕ). k ≤ 65535) (sym e) (each-passes Multiple t n p .3)
 
 -- what the length that is told then says of measuring under the rule
 module _ (rule : TypeIdRule) (t : Tables) (n : ℕ) (e : measureCheck Multiple t n ≡ Pass) {r : Told} (a : r ≡ lengthTold rule (usedOf t)) where

@@ -16,7 +16,7 @@ use Rattle.reference.specs.Tabled.{usedOf}
 use Rattle.reference.specs.Used.{tapsIn, namesIn, extrasIn}
 use Rattle.reference.specs.Checks.{both, test}
 use Rattle.reference.specs.Writer.{sizeOf, sourceCheck, usedCheck, sumCheck, counted, countsCheck, viewsCheck, imageCheck, measureCheck}
-use Rattle.reference.proofs.Checks.{stop, go, passes, le-test, lt-test}
+use Rattle.reference.proofs.Checks.{stop, go, passes, test-le, le-test, lt-test}
 use Rattle.table.specs.Flat.{tablesFrom, profileRegion, profilesUsed, tapsUsed, namesUsed, extrasUsed}
 use Rattle.survey.specs.ByTable.{usedIn}
 use Rattle.survey.specs.Seen.{passing}
@@ -97,10 +97,14 @@ module _ (rule : TypeIdRule) where
         pub at-image : viewsCheck n (usedOf t) ≡ Pass → measureCheck rule t n ≡ imageCheck (sizeOf rule (usedOf t))
         at-image views = beyond-counts ∙ go (viewsCheck n (usedOf t)) _ views
 
-  -- a table that measuring passes: the counts agree
-  pub counts-passed : (t : Tables) (n : ℕ) → measureCheck rule t n ≡ Pass → countsCheck t ≡ Pass
-  unfolding measureCheck
-  counts-passed t n e = passes _ _ (passes (sourceCheck n) _ e .1) .0
+    -- tables that measuring passes: each of its four checks does
+    pub each-passes : measureCheck rule t n ≡ Pass → (n ≤ 65535) × (countsCheck t ≡ Pass) × (viewsCheck n (usedOf t) ≡ Pass) × (sizeOf rule (usedOf t) ≤ 65535)
+    unfolding measureCheck
+    each-passes e =
+        let (source, counted) = passes (sourceCheck n) _ e in
+        let (counts, viewed) = passes (countsCheck t) _ counted in
+        let (views, image) = passes (viewsCheck n (usedOf t)) _ viewed in
+        (test-le n 65535 _ source, counts, views, test-le (sizeOf rule (usedOf t)) 65535 _ image)
 
 -- 10, by its test
 pub image-passing : (size : ℕ) → leb size 65535 ≡ passing (imageCheck size)

@@ -1,7 +1,7 @@
 // The library for firmware in C and in Rust: exported functions over numbers and octets, each lent by its caller as a pointer and a length
 // (include/ior.h). A table has 490 numbers (crate table), an answer six: number, place, both figures, the count, and the offset where a reading broke.
-// An array of another length, a table with a number that is wider than its field, or a number that names no rule or way is answered with 255, and nothing is changed. What the arrays hold and how long they are is asked of
-// no caller; that the pointers are right, C can't check.
+// An array of another length, a table with a number that is wider than its field, or a number that names no rule or way is answered with 255, and nothing
+// is changed. What the arrays hold and how long they are is asked of no caller; that the pointers are right, C can't check.
 ghost use mathlib.Core.Path.{_≡_};
 ghost use lib.ListN.{length};
 ghost use Rattle.reference.specs.Questions.{firstBiop};
