@@ -3,10 +3,10 @@
 -- and that tables keep to their types (`Typed`) is what the language gives a caller; nothing else is asked. The promises of the calls on a lent table stand
 -- in `Lent`. Those of reading and writing are instances, at rule 1 and with an address's constants, of what `Rules` proves over the rule and the way.
 -- Assumes nothing.
-use Prim.Native.Nat.{ℕ, _≤_}
+use Prim.Native.Nat.{ℕ, _+_, _<_, _≤_}
 use mathlib.Core.Path.{_≡_, sym, _∙_, subst}
 use mathlib.Core.Bool.{Bool}
-use mathlib.Core.List.{List, [], _∷_, map}
+use mathlib.Core.List.{List, [], _∷_, _++_, map}
 use mathlib.Core.Logic.{_≢_, _↔_}
 use lib.ListN.{length, take, getD}
 use lib.Dec.{T}
@@ -27,7 +27,7 @@ use Rattle.reference.specs.Today.{Leads, tablesOf, readLeading, readWhole, answ
 use Rattle.reference.specs.Tabled.{tabled, noTables, usedOf}
 use Rattle.reference.specs.Typed.{Typed, Unknown}
 use Rattle.reference.specs.Checks.{Among}
-use Rattle.reference.specs.Promises.{taking, PutInFront, LengthIsWritten, SameUsed, RulesAgree}
+use Rattle.reference.specs.Promises.{taking, CutShort, PutInFront, LengthIsWritten, SameUsed, RulesAgree}
 use Rattle.reference.specs.Worked as Table
 use Rattle.reference.proofs.Worked as worked-out
 use Rattle.reference.proofs.Addresses as addresses
@@ -141,6 +141,22 @@ blamed = rules.blamed Multiple
 pub whole-blamed : (s : List ℕ) (r : Reading) → r ≡ answered (readWhole s) → (x : Refusal) → r .answer ≡ Refused x → Among (x .number) (3 ∷ 4 ∷ [])
     → (s′ : List ℕ) → Alike s s′ x → (r′ : Reading) → r′ ≡ answered (readWhole s′) → r′ .answer ≡ Refused x
 whole-blamed = rules.whole-blamed Multiple
+
+-- ---- a reference cut short (document 02, No. 13), under each rule: here under rule 1, in `Rules` over the rule
+
+-- Of a slice s whose first n octets are accepted:
+module _ (s : List ℕ) (o : Octets s) (r : Reading) (c : r ≡ answered (readLeading s)) (n : ℕ) (h : r .answer ≡ Count n) where
+  -- Every shorter leading piece of the part is refused, and only with 1 or 2: what a power cut leaves never passes for a reference.
+  pub cut-short : (j : ℕ) → j < n → (q : Reading) → q ≡ answered (readLeading (take j s)) → CutShort (q .answer)
+  cut-short = rules.cut-short Multiple s o r c n h
+
+  -- So it is where the piece is read as a whole slice.
+  pub whole-cut-short : (j : ℕ) → j < n → (q : Reading) → q ≡ answered (readWhole (take j s)) → CutShort (q .answer)
+  whole-cut-short = rules.whole-cut-short Multiple s o r c n h
+
+  -- Octets x put behind the part, up to 65,535 in all, change neither tables nor consumed length.
+  pub behind : (x : List ℕ) → Octets x → n + length x ≤ 65535 → (q : Reading) → q ≡ answered (readLeading (take n s ++ x)) → q ≡ r
+  behind = rules.behind Multiple s o r c n h
 
 -- ---- the rules for type ids (document 02, No. 11)
 

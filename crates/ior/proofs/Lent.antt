@@ -3,9 +3,9 @@
 -- writing call, `f` after it, `w` its answer. That a slice of u8 holds octets (`Octets`), that the table has 490 numbers and that they are u32 (`Words`)
 -- is what the language gives a caller; nothing else is asked. Each but those on both rules is an instance, at rule 1 and with an address's constants, of what
 -- `LentRules` proves over the rule and the way. Assumes nothing.
-use Prim.Native.Nat.{ℕ, _%_, _≤_}
+use Prim.Native.Nat.{ℕ, _+_, _%_, _<_, _≤_}
 use mathlib.Core.Path.{_≡_, sym, ap, _∙_}
-use mathlib.Core.List.{List, [], _∷_}
+use mathlib.Core.List.{List, [], _∷_, _++_}
 use mathlib.Core.Logic.{_↔_}
 use lib.ListN.{length, take, replicate}
 use Rattle.octets.specs.Octets.{Octets, Each, part, be}
@@ -25,7 +25,7 @@ use Rattle.reference.specs.Today.{Leads, tablesOf, readLeading, readWhole, imag
 use Rattle.reference.specs.Tabled.{noTables, usedOf}
 use Rattle.reference.specs.Typed.{Unknown}
 use Rattle.reference.specs.Checks.{Among}
-use Rattle.reference.specs.Promises.{PutInFront, LengthIsWritten}
+use Rattle.reference.specs.Promises.{CutShort, PutInFront, LengthIsWritten, SameUsed}
 use Rattle.table.specs.Region.{Words}
 use Rattle.table.specs.Flat.{tablesFrom, tableSize, Lent}
 use Rattle.table.specs.Filed.{referenceFiled, SameEntries}
@@ -69,6 +69,20 @@ module _ (s : List ℕ) (o : Octets s) (t e : List ℕ) (lent : Lent t) (r : Tol
   pub lent-blamed : (x : Refusal) → r ≡ Refused x → Among (x .number) (3 ∷ 4 ∷ [])
       → (s′ : List ℕ) → Alike s s′ x → (t′ e′ : List ℕ) (r′ : Told) → ReadInto (readLeading s′) t′ e′ r′ → r′ ≡ Refused x
   lent-blamed = rules.lent-blamed Multiple s o t e lent r c
+
+  -- A reference cut short (document 02, No. 13): every shorter leading piece of an accepted part is refused, and only with 1 or 2; so it is where it is read
+  -- as a whole slice.
+  pub lent-cut-short : (n : ℕ) → r ≡ Count n → (j : ℕ) → j < n → (t′ e′ : List ℕ) (r′ : Told) → ReadInto (readLeading (take j s)) t′ e′ r′ → CutShort r′
+  lent-cut-short = rules.lent-cut-short Multiple s o t e lent r c
+
+  pub lent-whole-cut-short : (n : ℕ) → r ≡ Count n → (j : ℕ) → j < n → (t′ e′ : List ℕ) (r′ : Told) → ReadInto (readWhole (take j s)) t′ e′ r′ → CutShort r′
+  lent-whole-cut-short = rules.lent-whole-cut-short Multiple s o t e lent r c
+
+  -- Octets x put behind the part, up to 65,535 in all, change neither the consumed length nor what the table tells; a table that held the same before holds
+  -- the same then.
+  pub lent-behind : (n : ℕ) → r ≡ Count n → (x : List ℕ) → Octets x → n + length x ≤ 65535 → (t′ e′ : List ℕ) (r′ : Told) → Lent t′ → ReadInto (readLeading (take n s ++ x)) t′ e′ r′
+      → (r′ ≡ r) × (SameUsed (tablesFrom e′) (tablesFrom e)) × (t′ ≡ t → e′ ≡ e)
+  lent-behind = rules.lent-behind Multiple s o t e lent r c
 
   -- No number of the table that an accepted reading left is cut, and measuring it over the same octets tells the part's length.
   pub lent-read-is-uncut : (n : ℕ) → r ≡ Count n → Uncut e

@@ -1,8 +1,8 @@
 -- The promises of the calls on a lent table that take a rule and a way, each proved once, over both (document 02, No. 11). What a theorem says in words
 -- stands in `Lent`, where those of the calls that name neither are its instances. Assumes nothing.
-use Prim.Native.Nat.{ℕ, _≤_}
-use mathlib.Core.Path.{_≡_, refl, sym, _∙_, subst}
-use mathlib.Core.List.{List, [], _∷_}
+use Prim.Native.Nat.{ℕ, _+_, _<_, _≤_}
+use mathlib.Core.Path.{_≡_, refl, sym, ap, _∙_, subst}
+use mathlib.Core.List.{List, [], _∷_, _++_}
 use mathlib.Core.Logic.{_↔_}
 use lib.ListN.{length, take, replicate}
 use Rattle.reference.specs.declared.TypeIdRule.{TypeIdRule}
@@ -13,6 +13,7 @@ use Rattle.reference.specs.declared.Answer.the-variants.{Count, Refused}
 use Rattle.reference.specs.declared.Refusal.{Refusal}
 use Rattle.reference.specs.Meaning.{Reference, Room}
 use Rattle.reference.specs.Layout.{WellFormed, Leads}
+use Rattle.reference.specs.Steps.{Answer}
 use Rattle.reference.specs.Reader.{readLeading, readWhole}
 use Rattle.reference.specs.Used.{Used}
 use Rattle.reference.specs.Placed.{tablesOf}
@@ -21,7 +22,7 @@ use Rattle.reference.specs.Typed.{Unknown}
 use Rattle.reference.specs.Writer.{imageOf}
 use Rattle.reference.specs.Checks.{Among}
 use Rattle.reference.specs.Where.{Points, Alike}
-use Rattle.reference.specs.Promises.{GivesBack, ReadsBack, PutInFront, LengthIsWritten}
+use Rattle.reference.specs.Promises.{CutShort, GivesBack, ReadsBack, PutInFront, LengthIsWritten, SameUsed}
 use Rattle.reference.proofs.Accept.{exactly, whole}
 use Rattle.reference.proofs.Promised as promised
 use Rattle.reference.proofs.Written.{output-octets}
@@ -30,7 +31,7 @@ use Rattle.table.specs.Flat.{tablesFrom, tableSize, Lent}
 use Rattle.table.specs.Filed.{referenceFiled, SameEntries}
 use Rattle.table.proofs.Typed.{told-typed}
 use Rattle.survey.specs.Uncut.{Uncut}
-use Rattle.reading.specs.Into.{ReadInto}
+use Rattle.reading.specs.Into.{tableLeft, ReadInto}
 use Rattle.reading.specs.Lent.{ShowsInto}
 use Rattle.reading.proofs.Valued.{leading-good, whole-good}
 use Rattle.reading.proofs.Lent as reading
@@ -65,6 +66,22 @@ module _ (rule : TypeIdRule) where
     pub lent-blamed : (x : Refusal) → r ≡ Refused x → Among (x .number) (3 ∷ 4 ∷ [])
         → (s′ : List ℕ) → Alike rule s s′ x → (t′ e′ : List ℕ) (r′ : Told) → ReadInto rule (readLeading rule s′) t′ e′ r′ → r′ ≡ Refused x
     lent-blamed x h a s′ l t′ e′ r′ c′ = c′ .answers ∙ promised.blamed rule s s′ x (sym (c .answers) ∙ h) a l
+
+    pub lent-cut-short : (n : ℕ) → r ≡ Count n → (j : ℕ) → j < n → (t′ e′ : List ℕ) (r′ : Told) → ReadInto rule (readLeading rule (take j s)) t′ e′ r′ → CutShort r′
+    lent-cut-short n h j lt t′ e′ r′ c′ = subst CutShort (sym (c′ .answers)) (promised.cut-short rule s o n (sym (c .answers) ∙ h) j lt)
+
+    pub lent-whole-cut-short : (n : ℕ) → r ≡ Count n → (j : ℕ) → j < n → (t′ e′ : List ℕ) (r′ : Told) → ReadInto rule (readWhole rule (take j s)) t′ e′ r′ → CutShort r′
+    lent-whole-cut-short n h j lt t′ e′ r′ c′ = subst CutShort (sym (c′ .answers)) (promised.whole-cut-short rule s o n (sym (c .answers) ∙ h) j lt)
+
+    pub lent-behind : (n : ℕ) → r ≡ Count n → (x : List ℕ) → Octets x → n + length x ≤ 65535 → (t′ e′ : List ℕ) (r′ : Told) → Lent t′ → ReadInto rule (readLeading rule (take n s ++ x)) t′ e′ r′
+        → (r′ ≡ r) × (SameUsed (tablesFrom e′) (tablesFrom e)) × (t′ ≡ t → e′ ≡ e)
+    lent-behind n h x ox small t′ e′ r′ l c′ =
+        let i : ReadInto rule (readLeading rule s) t′ e′ r′ = subst (λ (y : Answer Reference). ReadInto rule y t′ e′ r′) (promised.behind rule s x o ox n (sym (c .answers) ∙ h) small) c′ in
+        let same : r′ ≡ r = i .answers ∙ sym (c .answers) in (
+          same,
+          reading.same-taken rule s o (reading.leading-taken rule s o t e lent r n h c) (reading.leading-taken rule s o t′ e′ l r′ n (same ∙ h) i),
+          λ q. i .leaves ∙ ap (λ (y : List ℕ). tableLeft rule (readLeading rule s) y) q ∙ sym (c .leaves),
+        )
 
     pub lent-read-is-uncut : (n : ℕ) → r ≡ Count n → Uncut e
     lent-read-is-uncut n h = guarded.taken-uncut rule s t e n lent (reading.leading-taken rule s o t e lent r n h c)

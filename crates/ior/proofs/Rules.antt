@@ -1,8 +1,8 @@
 -- The promises of the calls that take a rule and a way, each proved once, over both (document 02, No. 11). What a theorem says in words stands in `Demands`,
 -- where those of the calls that name neither are its instances. Assumes nothing.
-use Prim.Native.Nat.{ℕ, _≤_}
+use Prim.Native.Nat.{ℕ, _+_, _<_, _≤_}
 use mathlib.Core.Path.{_≡_, sym, ap, _∙_, subst}
-use mathlib.Core.List.{List, [], _∷_}
+use mathlib.Core.List.{List, [], _∷_, _++_}
 use mathlib.Core.Logic.{_↔_}
 use lib.ListN.{length, take}
 use Rattle.reference.specs.declared.TypeIdRule.{TypeIdRule}
@@ -15,6 +15,7 @@ use Rattle.reference.specs.declared.Refusal.{Refusal}
 use Rattle.reference.specs.declared.Tables.{Tables}
 use Rattle.reference.specs.Meaning.{Reference}
 use Rattle.reference.specs.Layout.{Leads}
+use Rattle.reference.specs.Steps.{Answer}
 use Rattle.reference.specs.Reader.{readLeading, readWhole, answered}
 use Rattle.reference.specs.Placed.{tablesOf}
 use Rattle.reference.specs.Tabled.{tabled, noTables, usedOf}
@@ -22,7 +23,7 @@ use Rattle.reference.specs.Typed.{Typed, Unknown}
 use Rattle.reference.specs.Writer.{imageOf, measured, written, leaves}
 use Rattle.reference.specs.Checks.{Among}
 use Rattle.reference.specs.Where.{Points, Alike}
-use Rattle.reference.specs.Promises.{taking, ShowsFields, GivesBack, ReadsBack, PutInFront, LengthIsWritten, SameUsed}
+use Rattle.reference.specs.Promises.{taking, ShowsFields, CutShort, GivesBack, ReadsBack, PutInFront, LengthIsWritten, SameUsed}
 use Rattle.reference.proofs.Promised as promised
 use Rattle.reference.proofs.Written as writtenly
 use Rattle.reference.proofs.Measured as measuredly
@@ -63,6 +64,20 @@ module _ (rule : TypeIdRule) where
   pub refused-whole-is-empty : (s : List ℕ) (r : Reading) → r ≡ answered rule (readWhole rule s) → (x : Refusal) → r .answer ≡ Refused x → r .tables ≡ noTables
   refused-whole-is-empty s r c x e =
       ap (λ (y : Reading). y .tables) c ∙ promised.refused-whole-is-empty rule s x (sym (ap (λ (y : Reading). y .answer) c) ∙ e)
+
+module _ (rule : TypeIdRule) where
+  module _ (s : List ℕ) (o : Octets s) (r : Reading) (c : r ≡ answered rule (readLeading rule s)) (n : ℕ) (h : r .answer ≡ Count n) where
+    counted : answered rule (readLeading rule s) .answer ≡ Count n
+    counted = sym (ap (λ (x : Reading). x .answer) c) ∙ h
+
+    pub cut-short : (j : ℕ) → j < n → (q : Reading) → q ≡ answered rule (readLeading rule (take j s)) → CutShort (q .answer)
+    cut-short j lt q e = subst (λ (x : Reading). CutShort (x .answer)) (sym e) (promised.cut-short rule s o n counted j lt)
+
+    pub whole-cut-short : (j : ℕ) → j < n → (q : Reading) → q ≡ answered rule (readWhole rule (take j s)) → CutShort (q .answer)
+    whole-cut-short j lt q e = subst (λ (x : Reading). CutShort (x .answer)) (sym e) (promised.whole-cut-short rule s o n counted j lt)
+
+    pub behind : (x : List ℕ) → Octets x → n + length x ≤ 65535 → (q : Reading) → q ≡ answered rule (readLeading rule (take n s ++ x)) → q ≡ r
+    behind x ox small q e = e ∙ ap (λ (a : Answer Reference). answered rule a) (promised.behind rule s x o ox n counted small) ∙ sym c
 
 module _ (rule : TypeIdRule) (way : AddressWay) where
   pub write-gives-back : (s : List ℕ) → Octets s → (r : Reading) → r ≡ answered rule (readLeading rule s) → (n : ℕ) → r .answer ≡ Count n

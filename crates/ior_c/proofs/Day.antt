@@ -23,7 +23,7 @@ use Rattle.reference.proofs.Back.{tables-canon}
 use Rattle.reference.proofs.Saying.{same-said}
 use Rattle.reference.proofs.Same.{same-both, used-shows, used-agrees, canon-twice, copy-leads, copy-octets, copy-read}
 use Rattle.table.specs.Flat.{tablesFrom}
-use Rattle.reading.proofs.Lent.{Taken, leading-taken}
+use Rattle.reading.proofs.Lent.{Taken, leading-taken, same-taken}
 use Rattle.ior_c.specs.Said.{numberOf, numbersOf}
 use Rattle.ior_c.specs.Promises.{Read, Day, Kept}
 use Rattle.ior_c.proofs.Readings.{leading, wholly, read-zero, read-sized, whole-is-leading}
@@ -59,7 +59,6 @@ module _ (rule : TypeIdRule) (way : AddressWay) where
       let (told₂, k₂) = read-told rule s o (day .again) z₂ in
       let m₂ = k₂ .meaning in
       let same : m₂ ≡ m = unique rule s o m₂ m n n (k₂ .leads) (k₁ .leads) .0 in
-      let s₂ : SameUsed t₂ (tabled (tablesOf rule m)) = subst (λ (x : Reference). SameUsed t₂ (tabled (tablesOf rule x))) same (k₂ .same) in
       -- written
       let w = day .copy in
       let (z₃, told₃, left₃, back) = left-written rule way s (day .again .table) (day .again .left) n (day .again .lent) k₂ (w .output) (w .answer) (w .result) (w .told) (w .left) (w .six) (day .room) (w .call) in
@@ -86,7 +85,7 @@ module _ (rule : TypeIdRule) (way : AddressWay) where
         k₁ .leads,
         record {
           again = (z₂, told₂ ∙ sym told₁);
-          equal = same-both s₂ (k₁ .same);
+          equal = same-taken rule s o k₁ k₂;
           copied = (z₃, told₃ ∙ sym told₁);
           back = subst (λ (x : Reference). GivesBack rule way s x n (w .output) (w .left)) same back;
           after = (z₄, told₄ ∙ ap (λ (i : ℕ). numbersOf (Count i)) long ∙ sym told₁);

@@ -3,11 +3,11 @@
 -- accepted; `b`, `e` and `f` are the answer, the table and the output after the call; `getD b 4 0` is the count told. That a slice of u8 holds octets
 -- (`Octets`) and one of u32 numbers below 2^32 (`Words`) is what the language gives a caller; nothing else is asked. Those of reading and writing are
 -- instances, at rule 1 and with an address's constants, of what `Rules` proves over the rule and the way. Assumes nothing.
-use Prim.Native.Nat.{ℕ, _%_, _≤_}
+use Prim.Native.Nat.{ℕ, _+_, _%_, _<_, _≤_}
 use mathlib.Core.Path.{_≡_, refl, sym, ap, _∙_, subst}
 use mathlib.Core.Bool.{Bool, true, false}
 use mathlib.Core.Logic.{_≢_, _↔_}
-use mathlib.Core.List.{List, [], _∷_}
+use mathlib.Core.List.{List, [], _∷_, _++_}
 use native.Mathlib.Omega.{arith}
 use lib.ListN.{length, take, getD, replicate}
 use lib.Dec.{T, eqb}
@@ -28,7 +28,7 @@ use Rattle.reference.specs.Used.{Used}
 use Rattle.reference.specs.Today.{Leads, tablesOf, imageOf, GivesBack, ReadsBack, Points, Alike}
 use Rattle.reference.specs.Tabled.{usedOf}
 use Rattle.reference.specs.Typed.{Unknown}
-use Rattle.reference.specs.Promises.{taking, PutInFront}
+use Rattle.reference.specs.Promises.{taking, PutInFront, SameUsed}
 use Rattle.reference.proofs.Cases.{by-test, by-answer}
 use Rattle.reference.proofs.Steps.{seen-no}
 use Rattle.reference.proofs.Asked.{picks-first}
@@ -79,6 +79,20 @@ module _ (s : List ℕ) (o : Octets s) (t a : List ℕ) (r : ℕ) (b e : List �
   pub c-blamed : Among r (3 ∷ 4 ∷ []) → (x : Refusal) × (b ≡ numbersOf (Refused x))
       × ((s′ : List ℕ) → Alike s s′ x → (t′ a′ : List ℕ) (r′ : ℕ) (b′ e′ : List ℕ) → Lent t′ → length a′ ≡ answerSize → IorRead s′ t′ a′ r′ b′ e′ → (r′ ≡ r) × (b′ ≡ b))
   c-blamed = rules.c-blamed Multiple s o t a r b e c
+
+  -- A reference cut short (document 02, No. 13): of every shorter leading piece of an accepted part, a call with arrays of the right lengths has the result 1
+  -- or 2; so it is where ior_read_whole reads it.
+  pub c-cut-short : r ≡ 0 → (j : ℕ) → j < getD b 4 0 → (t′ a′ : List ℕ) (r′ : ℕ) (b′ e′ : List ℕ) → Lent t′ → length a′ ≡ answerSize → IorRead (take j s) t′ a′ r′ b′ e′ → Among r′ (1 ∷ 2 ∷ [])
+  c-cut-short = rules.c-cut-short Multiple s o t a r b e c
+
+  pub c-whole-cut-short : r ≡ 0 → (j : ℕ) → j < getD b 4 0 → (t′ a′ : List ℕ) (r′ : ℕ) (b′ e′ : List ℕ) → Lent t′ → length a′ ≡ answerSize → IorReadWhole (take j s) t′ a′ r′ b′ e′ → Among r′ (1 ∷ 2 ∷ [])
+  c-whole-cut-short = rules.c-whole-cut-short Multiple s o t a r b e c
+
+  -- Octets x put behind the part, up to 65,535 in all, change neither result nor answer, nor what the table tells; a table that held the same before holds
+  -- the same then.
+  pub c-behind : r ≡ 0 → (x : List ℕ) → Octets x → getD b 4 0 + length x ≤ 65535 → (t′ a′ : List ℕ) (r′ : ℕ) (b′ e′ : List ℕ) → Lent t′ → length a′ ≡ answerSize
+      → IorRead (take (getD b 4 0) s ++ x) t′ a′ r′ b′ e′ → (r′ ≡ 0) × (b′ ≡ b) × (SameUsed (tablesFrom e′) (tablesFrom e)) × (t′ ≡ t → e′ ≡ e)
+  c-behind = rules.c-behind Multiple s o t a r b e c
 
   -- The table that an accepted reading left can be asked of: no number of it is cut, whatever source and output it is measured and written with.
   pub c-read-is-askable : r ≡ 0 → askable e answerSize ≡ true

@@ -18,6 +18,7 @@ use Rattle.reference.specs.Reader.{readLeading, readWhole, answered}
 use Rattle.reference.specs.Used.{Used}
 use Rattle.reference.specs.Placed.{tablesOf}
 use Rattle.reference.specs.Tabled.{usedOf}
+use Rattle.reference.specs.Promises.{CutShort}
 use Rattle.reference.proofs.Cases.{by-test, by-answer}
 use Rattle.reference.proofs.Numbers.{leading-numbers, whole-numbers, reading-number}
 use Rattle.reference.proofs.Promised.{refuses}
@@ -81,6 +82,10 @@ module _ (rule : TypeIdRule) where
         let (p, g, _) = read-sized l f in
         let e = ap (λ (v : Answer Reference). answered rule v .answer) q in
         (p ∙ ap numberOf e, g ∙ ap numbersOf e)
+
+    -- and so is what it refuses with 1 or 2
+    pub cut-told : CutShort (answered rule x .answer) → Lent t → length a ≡ answerSize → Among r (1 ∷ 2 ∷ [])
+    cut-told k l f = let (p, g, _) = read-sized l f in subst (λ (i : ℕ). Among i (1 ∷ 2 ∷ [])) (sym (p ∙ ap numberOf (k .refused))) (k .number)
 
     pub read-unasked : r ≡ 255 → (b ≡ a) × (e ≡ t)
     read-unasked z = let (n, p, q) = unasked-given c (unasked-exactly (λ y q. numbered y (refuses rule x y q) .1) (c .tells) .0 z) in (p, q)

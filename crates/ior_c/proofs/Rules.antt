@@ -1,10 +1,10 @@
 -- The promises of the functions that firmware links, over the rule for type ids and the way an address is written, each proved once (document 02, No. 11).
 -- What a theorem says in words stands in `Demands`, where those of the functions that name neither are its instances. Assumes nothing.
-use Prim.Native.Nat.{ℕ, _≤_}
+use Prim.Native.Nat.{ℕ, _+_, _<_, _≤_}
 use mathlib.Core.Path.{_≡_, refl, sym, ap, _∙_, subst}
 use mathlib.Core.Bool.{true}
 use mathlib.Core.Logic.{_≢_, _↔_}
-use mathlib.Core.List.{List, [], _∷_}
+use mathlib.Core.List.{List, [], _∷_, _++_}
 use native.Mathlib.Omega.{arith}
 use lib.ListN.{length, take, getD, replicate}
 use Rattle.reference.specs.declared.TypeIdRule.{TypeIdRule}
@@ -17,16 +17,18 @@ use Rattle.reference.specs.Meaning.{Reference}
 use Rattle.reference.specs.Layout.{Leads}
 use Rattle.reference.specs.Checks.{Among}
 use Rattle.reference.specs.Where.{Points, Alike}
+use Rattle.reference.specs.Steps.{Answer}
 use Rattle.reference.specs.Reader.{readLeading, readWhole, answered}
 use Rattle.reference.specs.Used.{Used}
 use Rattle.reference.specs.Placed.{tablesOf}
 use Rattle.reference.specs.Tabled.{usedOf}
 use Rattle.reference.specs.Typed.{Unknown}
 use Rattle.reference.specs.Writer.{imageOf, written}
-use Rattle.reference.specs.Promises.{taking, GivesBack, ReadsBack, PutInFront}
+use Rattle.reference.specs.Promises.{taking, GivesBack, ReadsBack, PutInFront, SameUsed}
 use Rattle.reference.proofs.Accept.{exactly, whole}
 use Rattle.reference.proofs.Cases.{by-test, by-answer}
 use Rattle.reference.proofs.Numbers.{leading-numbers, whole-numbers}
+use Rattle.reference.proofs.Promised as promised
 use Rattle.reference.proofs.Blame as blame
 use Rattle.reference.proofs.Written.{output-reads-back, written-reads-whole, image-octets, output-octets}
 use Rattle.reference.proofs.Measured.{refused-writing-leaves-all, accepted-writing-puts}
@@ -35,9 +37,10 @@ use Rattle.table.specs.Flat.{tablesFrom, tableSize, Lent}
 use Rattle.table.specs.Filed.{SameEntries}
 use Rattle.table.proofs.Typed.{told-typed}
 use Rattle.survey.specs.Uncut.{Uncut}
+use Rattle.reading.specs.Into.{tableLeft}
 use Rattle.reading.specs.Lent.{ShowsInto}
 use Rattle.reading.proofs.Valued.{leading-good, whole-good}
-use Rattle.reading.proofs.Lent.{Taken, leading-taken, lent-read-back}
+use Rattle.reading.proofs.Lent.{Taken, leading-taken, same-taken, lent-read-back}
 use Rattle.ior_c.specs.Said.{answerSize, numberOf, numbersOf, askable}
 use Rattle.ior_c.specs.Calls.{IorRead, IorReadWhole, IorLength, IorWrite}
 use Rattle.ior_c.specs.Promises.{SameLength, Day, Kept}
@@ -88,6 +91,31 @@ module _ (rule : TypeIdRule) where
           λ s′ l t′ a′ r′ b′ e′ lent six c′.
               let (m, v) = reading.refused-told rule (readLeading rule s′) (reading.leading rule s′) t′ a′ r′ b′ e′ c′ (blame.leading-blamed rule s s′ x k l q) lent six in
               (m ∙ sym n, v ∙ sym told),
+        )
+
+    counted : r ≡ 0 → answered rule (readLeading rule s) .answer ≡ Count (getD b 4 0)
+    counted z = let k = taken z .0 in sym (k .into .answers) ∙ ap Count (sym (ap (λ (v : List ℕ). getD v 4 0) (k .told)))
+
+    pub c-cut-short : r ≡ 0 → (j : ℕ) → j < getD b 4 0 → (t′ a′ : List ℕ) (r′ : ℕ) (b′ e′ : List ℕ) → Lent t′ → length a′ ≡ answerSize → IorRead rule (take j s) t′ a′ r′ b′ e′ → Among r′ (1 ∷ 2 ∷ [])
+    c-cut-short z j lt t′ a′ r′ b′ e′ l six w =
+        reading.cut-told rule (readLeading rule (take j s)) (reading.leading rule (take j s)) t′ a′ r′ b′ e′ w (promised.cut-short rule s o (getD b 4 0) (counted z) j lt) l six
+
+    pub c-whole-cut-short : r ≡ 0 → (j : ℕ) → j < getD b 4 0 → (t′ a′ : List ℕ) (r′ : ℕ) (b′ e′ : List ℕ) → Lent t′ → length a′ ≡ answerSize → IorReadWhole rule (take j s) t′ a′ r′ b′ e′ → Among r′ (1 ∷ 2 ∷ [])
+    c-whole-cut-short z j lt t′ a′ r′ b′ e′ l six w =
+        reading.cut-told rule (readWhole rule (take j s)) (reading.wholly rule (take j s)) t′ a′ r′ b′ e′ w (promised.whole-cut-short rule s o (getD b 4 0) (counted z) j lt) l six
+
+    pub c-behind : r ≡ 0 → (x : List ℕ) → Octets x → getD b 4 0 + length x ≤ 65535 → (t′ a′ : List ℕ) (r′ : ℕ) (b′ e′ : List ℕ) → Lent t′ → length a′ ≡ answerSize
+        → IorRead rule (take (getD b 4 0) s ++ x) t′ a′ r′ b′ e′ → (r′ ≡ 0) × (b′ ≡ b) × (SameUsed (tablesFrom e′) (tablesFrom e)) × (t′ ≡ t → e′ ≡ e)
+    c-behind z x ox small t′ a′ r′ b′ e′ l six w =
+        let n = getD b 4 0 in
+        let (k, v) = taken z in
+        let told : answered rule (readLeading rule s) .answer ≡ Count n = counted z in
+        let same = promised.behind rule s x o ox n told small in
+        let (p, q, i) = reading.read-sized rule (readLeading rule s) (reading.leading rule s) t′ a′ r′ b′ e′ (subst (λ (y : Answer Reference). reading.Reads rule y t′ a′ r′ b′ e′) same w) l six in (
+          p ∙ ap numberOf told,
+          q ∙ ap numbersOf told ∙ zeros k,
+          same-taken rule s o v (leading-taken rule s o t′ e′ l (answered rule (readLeading rule s) .answer) n told i),
+          λ h. i .leaves ∙ ap (λ (y : List ℕ). tableLeft rule (readLeading rule s) y) h ∙ sym (k .into .leaves),
         )
 
     pub c-read-is-askable : r ≡ 0 → askable e answerSize ≡ true

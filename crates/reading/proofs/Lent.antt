@@ -22,10 +22,10 @@ use Rattle.reference.specs.Placed.{tablesOf}
 use Rattle.reference.specs.Tabled.{tabled, noTables, usedOf}
 use Rattle.reference.specs.Writer.{written, leaves}
 use Rattle.reference.specs.Promises.{SameUsed, GivesBack, ReadsBack}
-use Rattle.reference.proofs.Accept.{only-accepted, only-whole, whole-leads}
+use Rattle.reference.proofs.Accept.{only-accepted, only-whole, whole-leads, unique}
 use Rattle.reference.proofs.Fitting.{used-tabled, sums}
 use Rattle.reference.proofs.Promised.{counts, refuses}
-use Rattle.reference.proofs.Same.{same-saying, used-agrees, used-shows, used-given-back}
+use Rattle.reference.proofs.Same.{same-both, same-saying, used-agrees, used-shows, used-given-back}
 use Rattle.table.specs.Flat.{tablesFrom, Lent, tableSize}
 use Rattle.table.specs.Filed.{referenceFiled}
 use Rattle.table.proofs.Lent.{read-files, read-length}
@@ -132,6 +132,12 @@ module _ (rule : TypeIdRule) where
         let (m, q, p) = into-accepted rule (readLeading rule s) t e r h n c in
         let (small, l) = only-accepted rule s o m n q in
         taken s o t e lent m n p small l
+
+  -- two of the same octets tell the same, whatever the tables held
+  pub same-taken : (s : List ℕ) → Octets s → {t e t′ e′ : List ℕ} {n : ℕ} → Taken s t e n → Taken s t′ e′ n → SameUsed (tablesFrom e′) (tablesFrom e)
+  same-taken s o {t} {e} {t′} {e′} {n} k k′ =
+      let q = unique rule s o (k′ .meaning) (k .meaning) n n (k′ .leads) (k .leads) .0 in
+      same-both (subst (λ (m : Reference). SameUsed (tablesFrom e′) (tabled (tablesOf rule m))) q (k′ .same)) (k .same)
 
 module _ (rule : TypeIdRule) (way : AddressWay) where
   -- ---- what is read back by value is read back into every lent table

@@ -1,11 +1,11 @@
 -- The promises of reading, and of reading and writing together, over what the public calls answer: `r ≡ answered (readLeading d)`, `written t s d` and
 -- `leaves t s d`. The promises of writing alone stand in `Measured`. Assumes nothing.
-use Prim.Native.Nat.{ℕ, _≤_}
-use mathlib.Core.Path.{_≡_, sym, ap, _∙_, subst}
-use mathlib.Core.Logic.{_↔_}
-use mathlib.Core.List.{List, [], _∷_}
+use Prim.Native.Nat.{ℕ, _+_, _<_, _≤_}
+use mathlib.Core.Path.{_≡_, refl, sym, ap, _∙_, subst}
+use mathlib.Core.Logic.{_↔_, inl, inr, ⊎-elim}
+use mathlib.Core.List.{List, [], _∷_, _++_}
 use native.Mathlib.Omega.{arith}
-use lib.ListN.{length}
+use lib.ListN.{length, take}
 use Rattle.octets.specs.Octets.{Octets}
 use Rattle.reference.specs.declared.TypeIdRule.{TypeIdRule}
 use Rattle.reference.specs.declared.AddressWay.{AddressWay}
@@ -22,11 +22,17 @@ use Rattle.reference.specs.Tabled.{tabled, noTables}
 use Rattle.reference.specs.Writer.{written, leaves}
 use Rattle.reference.specs.Checks.{Among}
 use Rattle.reference.specs.Where.{Points, Alike}
-use Rattle.reference.specs.Promises.{taking, ShowsFields, GivesBack}
+use Rattle.reference.specs.Promises.{taking, ShowsFields, CutShort, GivesBack}
 use Rattle.reference.proofs.Accept.{accepted, only-accepted, whole, only-whole, whole-leads, unique}
+use Rattle.reference.proofs.Accept as accept
+use Rattle.reference.proofs.Laws.{Short}
+use Rattle.reference.proofs.Constants.{side}
 use Rattle.reference.proofs.Shows.{fields-shown}
 use Rattle.reference.proofs.Written.{part-given-back}
 use Rattle.reference.proofs.Blame as blame
+
+one-or-two : (n : ℕ) → (1 ≤ n) × (n ≤ 2) → Among n (1 ∷ 2 ∷ [])
+one-or-two n h = ⊎-elim (λ e. inl (omega arith)) (λ e. inr (inl (omega arith))) (side n 1)
 
 module _ (rule : TypeIdRule) where
   -- ---- from a declared answer to the definition's
@@ -88,6 +94,30 @@ module _ (rule : TypeIdRule) where
 
   pub refused-whole-is-empty : (d : List ℕ) (x : Refusal) → answered rule (readWhole rule d) .answer ≡ Refused x → answered rule (readWhole rule d) .tables ≡ noTables
   refused-whole-is-empty d x e = ap (λ (a : Answer Reference). answered rule a .tables) (refuses (readWhole rule d) x e)
+
+  -- ---- a reference cut short (document 02, No. 13)
+
+  cut-off : (a : Answer Reference) → Short a → CutShort (answered rule a .answer)
+  cut-off (ok m n) h = absurd h
+  cut-off (refused x) h = record { refusal = x; refused = refl; number = one-or-two (x .number) h }
+
+  -- Every shorter leading piece of an accepted part is refused, and only with 1 or 2;
+  pub cut-short : (d : List ℕ) → Octets d → (n : ℕ) → answered rule (readLeading rule d) .answer ≡ Count n → (j : ℕ) → j < n → CutShort (answered rule (readLeading rule (take j d)) .answer)
+  cut-short d o n e j lt =
+      let (m, q) = counts (readLeading rule d) n e in
+      let (small, l) = only-accepted rule d o m n q in
+      cut-off (readLeading rule (take j d)) (accept.cut-short rule d o small m n l j lt)
+
+  -- so it is where it is read as a whole slice.
+  pub whole-cut-short : (d : List ℕ) → Octets d → (n : ℕ) → answered rule (readLeading rule d) .answer ≡ Count n → (j : ℕ) → j < n → CutShort (answered rule (readWhole rule (take j d)) .answer)
+  whole-cut-short d o n e j lt =
+      let (m, q) = counts (readLeading rule d) n e in
+      let (small, l) = only-accepted rule d o m n q in
+      cut-off (readWhole rule (take j d)) (accept.whole-cut-short rule d o small m n l j lt)
+
+  -- The part with octets put behind it, up to 65,535 in all, is read as it was.
+  pub behind : (d x : List ℕ) → Octets d → Octets x → (n : ℕ) → answered rule (readLeading rule d) .answer ≡ Count n → n + length x ≤ 65535 → readLeading rule (take n d ++ x) ≡ readLeading rule d
+  behind d x o ox n e small = let (m, q) = counts (readLeading rule d) n e in accept.behind rule d x o ox m n q small ∙ sym q
 
 module _ (rule : TypeIdRule) (way : AddressWay) where
   -- Writing the tables of an accepted reading over the same octets into any output with room answers the part's length and leaves the part, save an

@@ -2,7 +2,7 @@
 -- against writing (document 01, "Tables" and the three demands). The theorems stand in proofs/. Assumes nothing.
 use Prim.Native.Nat.{ℕ, _-_, _%_, _<_, _≤_}
 use mathlib.Core.Path.{_≡_}
-use mathlib.Core.List.{List}
+use mathlib.Core.List.{List, [], _∷_}
 use lib.ListN.{length, take, drop, getD, replicate}
 use Rattle.octets.specs.Octets.{Each, Octets, part, be}
 use Rattle.reference.specs.declared.TypeIdRule.{TypeIdRule}
@@ -50,6 +50,12 @@ pub record ShowsFields (rule : TypeIdRule) (d : List ℕ) (m : Reference) (t : T
   pub noTaps : drop (t .«taps_used») (t .taps) ≡ replicate (36 - t .«taps_used») noTap
   pub noNames : drop (t .«names_used») (t .names) ≡ replicate (32 - t .«names_used») noName
   pub noExtras : drop (t .«extras_used») (t .extras) ≡ replicate (32 - t .«extras_used») noExtra
+
+-- What a reading of a piece that is cut short answers (document 02, No. 13): it is refused, and only with 1 or 2.
+pub record CutShort (r : Told) : Type 0 where
+  pub refusal : Refusal
+  pub refused : r ≡ Refused refusal
+  pub number : Among (refusal .number) (1 ∷ 2 ∷ [])
 
 -- Writing the tables of an accepted reading of d that says m, over d itself, into an output that held out and has room, left e: at every index before the
 -- part's length n that is not one of an address's constants the octet is the one that was read; where the constants are standard the part is back
