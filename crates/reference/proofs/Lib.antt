@@ -31,6 +31,7 @@ pub mod Rules
 pub mod Good
 pub mod Places
 pub mod GapCases
+pub mod CutCases
 pub mod Asked
 pub mod Addresses
 pub mod Names

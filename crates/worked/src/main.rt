@@ -1,6 +1,7 @@
 // Runs the worked references P1 to P11 of document 01, and every case that it marks "Run", through the library, and prints each answer:
 // number, place, two figures, and octets consumed or written; then type ids with a gap under both rules, and a DVB address with each octet at each
-// other value. What must come out stands in stdout, from documents 01 and 02.
+// other value. Behind each reference, read or written, stands how often it was refused, and with which number, when it was cut at each octet. What must
+// come out stands in stdout, from documents 01 and 02.
 ghost use Prim.Native.Nat.{_+_, _<_, _≤_};
 ghost use lib.ListN.{length};
 use ior::AddressOctets;
@@ -57,10 +58,97 @@ fn say_answer(name: &[u8], answer: Answer) {
     }
 }
 
+// The number of a refusal, or 0.
+fn number_of(answer: Answer) -> u8 {
+    match answer {
+        Answer::Count(_) => 0,
+        Answer::Refused(why) => why.number,
+    }
+}
+
+// The first j octets of s, read as a leading reference or as a whole slice.
+fn reads_piece(s: &[u8], j: usize, rule: TypeIdRule, whole: bool) -> u8
+    requires { ⌜ j ≤ length (now s) ⌝ }
+{
+    let piece = &s[..j];
+    if whole {
+        let r = ior::read_whole_by(piece, rule);
+        let answer = r.answer;
+        return number_of(answer);
+    }
+    let r = ior::read_leading_by(piece, rule);
+    let answer = r.answer;
+    number_of(answer)
+}
+
+fn say_cut(name: &[u8], how: &[u8], one: u64, two: u64, other: u64) {
+    io::write_all(STDOUT_FILENO, name);
+    io::write_all(STDOUT_FILENO, how);
+    io::write_all(STDOUT_FILENO, b" 1");
+    say(one);
+    io::write_all(STDOUT_FILENO, b" 2");
+    say(two);
+    io::write_all(STDOUT_FILENO, b" other");
+    say(other);
+    io::write_all(STDOUT_FILENO, b"\n");
+}
+
+// Each shorter leading piece of the n octets at the start of s: how many are refused with 1, how many with 2, and how many otherwise or not at all.
+fn cuts(name: &[u8], how: &[u8], s: &[u8], n: usize, rule: TypeIdRule, whole: bool)
+    requires { ⌜ n ≤ length (now s) ⌝ }
+{
+    let mut one: u64 = 0;
+    let mut two: u64 = 0;
+    let mut other: u64 = 0;
+    let mut j: usize = 0;
+    while j < n {
+        let number = reads_piece(s, j, rule, whole);
+        j += 1;
+        if number == 1 {
+            one += 1;
+        } else if number == 2 {
+            two += 1;
+        } else {
+            other += 1;
+        }
+    }
+    say_cut(name, how, one, two, other);
+}
+
+// The reference at the start of s, if there is one under the rule, is cut at each octet.
+fn cuts_part(name: &[u8], leading: &[u8], whole: &[u8], s: &[u8], rule: TypeIdRule) {
+    let r = ior::read_leading_by(s, rule);
+    let answer = r.answer;
+    if let Answer::Count(n) = answer {
+        if n <= s.len() {
+            cuts(name, leading, s, n, rule, false);
+            cuts(name, whole, s, n, rule, true);
+        }
+    }
+}
+
+fn cuts_reference(name: &[u8], s: &[u8]) {
+    cuts_part(
+        name,
+        b", pieces by rule 1, leading:",
+        b", pieces by rule 1, whole:",
+        s,
+        TypeIdRule::Multiple,
+    );
+    cuts_part(
+        name,
+        b", pieces by rule 2, leading:",
+        b", pieces by rule 2, whole:",
+        s,
+        TypeIdRule::Gap,
+    );
+}
+
 fn reads(name: &[u8], s: &[u8]) {
     let r = ior::read_leading(s);
     let answer = r.answer;
     say_answer(name, answer);
+    cuts_reference(name, s);
 }
 
 fn say_kind(type_id: &[u8]) {
@@ -158,6 +246,7 @@ fn writes(name: &[u8], t: Tables, at: usize) {
         say(wide(out[at]));
     }
     io::write_all(STDOUT_FILENO, b"\n");
+    cuts_reference(name, &out);
 }
 
 // A BIOP profile at `at` with so many taps of zero octets: its headers, of which the other octets are zero.
@@ -259,6 +348,7 @@ fn reads_by(name: &[u8], s: &[u8]) {
     let gap = ior::read_leading_by(s, TypeIdRule::Gap);
     let second = gap.answer;
     say_answer(name, second);
+    cuts_reference(name, s);
 }
 
 // A type id of five octets, and a gap of three that is right, wrong, left out or cut.
@@ -285,6 +375,7 @@ fn writes_by(name: &[u8], len: u32, rule: TypeIdRule) {
         name,
         ior::write_by(t, &source, &mut out, rule, AddressWay::Constants),
     );
+    cuts_reference(name, &out);
 }
 
 // Without its gap of three, the image of a type id of 65,525 octets would fit.
