@@ -102,7 +102,8 @@ enum { IOR_EXTRA_TAG = 0, IOR_EXTRA_AT = 1, IOR_EXTRA_LEN = 2 };
 /* ---- references */
 
 /* Reads the reference at the start of s. Accepted: answer[4] octets were consumed, the table's six front numbers and its used entries are
- * stored, and what stands behind the used entries is kept. Refused (1 to 4, 6, 7): answer[4] is 0 and the table is zero throughout. */
+ * stored, and what stands behind the used entries is kept. Refused (1 to 4, 6, 7): answer[4] is 0 and the table is zero throughout. Octets behind the
+ * reference, up to 65,535 in all, change nothing; a reference that is cut short is refused with 1 or 2. */
 uint32_t ior_read(const uint8_t *s, size_t n, uint32_t *table, size_t table_len, uint64_t *answer, size_t answer_len);
 
 /* The same, and s must end with the reference: octets left over are refused with 1, place 4. */

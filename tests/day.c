@@ -1,11 +1,12 @@
 /* The day of one reference, run: references made at random are read into a dirty table, read again into another, written anew and read once more. After
- * each step stands what `through-the-day` promises of it (docs/PROMISES.md). A day is by each rule in turn, and by the functions that name none. */
+ * each step stands what `through-the-day` promises of it (docs/PROMISES.md); and power goes while one is stored (`c-cut-short`, `c-whole-cut-short`,
+ * `c-behind`). A day is by each rule in turn, and by the functions that name none. */
 #include <stdio.h>
 #include <stdlib.h>
 #include <string.h>
 #include "ior.h"
 
-enum { DAYS = 5000, SOURCE = 4096, ROOM = 16384, CONSTANTS = 7 };
+enum { DAYS = 5000, SOURCE = 4096, ROOM = 16384, BEHIND = 64, CONSTANTS = 7 };
 
 static const size_t regions[4][3] = { /* where the entries of a sort start, how wide one is, and how many there are */
     {IOR_PROFILE_START, IOR_PROFILE_WIDTH, IOR_PROFILES}, {IOR_TAP_START, IOR_TAP_WIDTH, IOR_TAPS},
@@ -14,7 +15,7 @@ static const size_t constant_at[CONSTANTS] = {19, 20, 25, 35, 36, 37, 38}; /* of
 static const uint8_t constant[CONSTANTS] = {0, 0, 1, 0xFF, 0xFF, 0xFF, 0xFF};
 
 static uint64_t state = 0x9E3779B97F4A7C15u;
-static uint8_t source[SOURCE], stored[ROOM], output[ROOM], before[ROOM];
+static uint8_t source[SOURCE], stored[ROOM + BEHIND], output[ROOM], before[ROOM];
 static int fixed[ROOM]; /* which octets of the stored reference are constants */
 static uint32_t rule;   /* the day's; 0 for the functions that name none */
 
@@ -41,6 +42,10 @@ static void fill(uint8_t *octets, size_t n) {
 
 static uint32_t reads(const uint8_t *s, size_t n, struct ior_table *t, struct ior_answer *a) {
     return rule == 0 ? ior_read_whole_into(s, n, t, a) : ior_read_whole_into_by(rule, s, n, t, a);
+}
+
+static uint32_t leads(const uint8_t *s, size_t n, struct ior_table *t, struct ior_answer *a) {
+    return rule == 0 ? ior_read_into(s, n, t, a) : ior_read_into_by(rule, s, n, t, a);
 }
 
 static uint32_t writes(const struct ior_table *t, const uint8_t *s, size_t n, uint8_t *out, size_t room, struct ior_answer *a) {
@@ -140,8 +145,34 @@ static int sums(const struct ior_table *t) {
            && ior_first_extra(t, end) == t->number[IOR_EXTRAS_USED];
 }
 
-static void day(void) {
-    struct ior_table arrived = dirty(), again = dirty(), was = again, after = dirty(), refused = dirty();
+static int zero(const struct ior_table *t) {
+    for (size_t i = 0; i < IOR_TABLE; i++)
+        if (t->number[i] != 0) return 0;
+    return 1;
+}
+
+/* Power goes while the octets are stored: of a piece both readings tell 1 or 2, and leave zeros. */
+static void cut(size_t piece) {
+    struct ior_table t, u;
+    struct ior_answer a;
+    uint32_t leading, whole;
+    memset(&t, 0xA5, sizeof t), memset(&u, 0xA5, sizeof u);
+    leading = leads(stored, piece, &t, &a);
+    expect((leading == IOR_CUT || leading == IOR_TOO_LONG) && zero(&t), "a piece passed for a reference");
+    whole = reads(stored, piece, &u, &a);
+    expect((whole == IOR_CUT || whole == IOR_TOO_LONG) && zero(&u), "a piece passed for a whole reference");
+}
+
+/* Whatever stands behind the n octets, they are read as they were. */
+static void behind(size_t n, const struct ior_table *was, const struct ior_answer *told) {
+    struct ior_table t = dirty();
+    struct ior_answer a;
+    fill(stored + n, BEHIND);
+    expect(leads(stored, n + any(BEHIND + 1), &t, &a) == IOR_ACCEPTED && same(&a, told) && equal(&t, was), "octets behind the reference were looked at");
+}
+
+static void day(int cut_at_each) {
+    struct ior_table arrived = dirty(), again = dirty(), was = again, after = dirty();
     struct ior_answer a, b;
     size_t n = arrive(), room = n + any(50);
     expect(reads(stored, n, &arrived, &a) == IOR_ACCEPTED && a.number[IOR_ANSWER_COUNT] == n, "the octets were not accepted");
@@ -155,13 +186,14 @@ static void day(void) {
     expect(memcmp(output + n, before + n, sizeof output - n) == 0, "octets behind the copy were changed");
     expect(reads(output, n, &after, &b) == IOR_ACCEPTED && same(&a, &b), "the copy was not accepted");
     expect(equal(&arrived, &after), "used entries of the copy differ");
-    expect(reads(stored, n - 1, &refused, &b) != IOR_ACCEPTED, "a reference that is cut was accepted");
-    for (size_t i = 0; i < IOR_TABLE; i++) expect(refused.number[i] == 0, "a refused reading left a number");
+    for (size_t piece = cut_at_each ? 0 : n - 1; piece < n; piece++) cut(piece);
+    cut(any((uint32_t)n));
+    behind(n, &arrived, &a);
 }
 
 int main(void) {
     fill(source, SOURCE);
-    for (uint32_t i = 0; i < DAYS; i++) rule = i % 3, day();
+    for (uint32_t i = 0; i < DAYS; i++) rule = i % 3, day(i % 10 == 0);
     printf("day: %d days passed\n", (int)DAYS);
     return 0;
 }

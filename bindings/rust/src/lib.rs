@@ -220,7 +220,8 @@ impl<'a> Reference<'a> {
         Refusal::located(result, &answer).map(|consumed| (reference, consumed))
     }
 
-    /// The reference at the start of `source`, and how many octets it has.
+    /// The reference at the start of `source`, and how many octets it has. Octets behind it, up to 65,535 in all, change
+    /// nothing; a reference that is cut short is refused, with 1 or 2.
     pub fn read(source: &'a [u8]) -> Result<(Self, usize), Refusal> {
         Self::made(source, |table, answer| calls::read(source, table, answer))
     }

@@ -337,6 +337,19 @@ fn every_gap() {
     }
 }
 
+#[test]
+fn cut_short() {
+    for (rule, octets) in [(TypeIdRule::Multiple, rich()), (TypeIdRule::Gap, rich()), (TypeIdRule::Gap, rich_with(b"abcde"))] {
+        for length in 0..octets.len() {
+            let (why, _) = refused_by(rule, &octets[..length]);
+            assert!(matches!(why.number, 1 | 2), "{length} octets: {why}");
+        }
+        let (reference, consumed) = Reference::read_by(rule, &octets).unwrap();
+        let behind = [&octets[..], b"whatever stood there before"].concat();
+        assert_eq!(Reference::read_by(rule, &behind).unwrap(), (reference, consumed));
+    }
+}
+
 /// The rule that is a multiple of 4 and the way with constants are what the functions without them do.
 fn same_without(octets: &[u8]) {
     let (rule, way) = (TypeIdRule::Multiple, AddressWay::Constants);
