@@ -1,5 +1,5 @@
 -- References cut at every octet, and with octets put behind them, case by case (document 02, No. 13): the number that each shorter leading piece is refused
--- with, under each rule that takes the whole. Crate `worked` cuts the same. Assumes nothing.
+-- with, under each rule that takes the whole. Crate `worked` cuts references so through the code. Assumes nothing.
 use Prim.Native.Nat.{ℕ, zero, suc}
 use mathlib.Core.Path.{_≡_, refl}
 use mathlib.Core.List.{List, [], _∷_, _++_, map}
