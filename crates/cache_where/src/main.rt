@@ -1,11 +1,13 @@
 // Lists the references of a cache that comes from standard input, and of a refused one where it broke; its argument is the input's name.
-use libc::STDIN_FILENO;
-use listing::list;
-use outcome::tell;
+#![tactic(auto)]
 
-fn main() {
-    let mut name = io::buffer();
-    let n = os::arg(1, &mut name);
-    let outcome = list(STDIN_FILENO, true);
-    tell(outcome, &name[..n]);
+use listing::list;
+use outcome::{input_name, tell};
+use std::process::ExitCode;
+
+fn main(rt: HostRuntime) -> ExitCode {
+    let mut room = [0u8; 4096];
+    let name = input_name(&rt, &mut room);
+    let outcome = list(&mut rt.stdin(), &rt, true);
+    tell(&rt.stderr(), rt.alloc(), outcome, name)
 }

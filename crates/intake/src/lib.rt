@@ -1,48 +1,57 @@
-// Input from a descriptor into lent slices: parts of a known length, and the records of a cache in blocks. A read that fails is told apart from the input's end.
+// Input from a reader into lent slices: parts of a known length, and the records of a cache in blocks. A read that fails is told apart from the input's end.
+#![tactic(auto)]
+
 ghost use Rattle.std.specs.Prelude.{◌≡◌, ◌+◌, ◌-◌, ◌≤◌, ◌<◌, length};
-ghost use Rattle.io.specs.Counts.{IsPrefixLen};
+ghost use Rattle.intake.specs.Counts.{IsPrefixLen};
 ghost use Rattle.octets.specs.Octets.{part, splice};
 
 use records::announced_by;
+use std::io;
+use std::io::Read;
 
-// How many octets came. None: the input ended, or the read failed, and then errno says why.
+// How many octets came, and why the read failed, if it did. None: the input ended, or the read failed.
 #[derive(Drop)]
 pub struct Came {
     pub count: usize,
-    pub is_failure: bool,
+    pub failure: Option<io::Error>,
 }
 
 // One read to the start of `part`, which is not empty: an empty one would look like the input's end.
-fn read_some(fd: i32, part: &mut [u8]) -> Came
+fn read_some<R: Read>(input: &mut R, part: &mut [u8]) -> Came
     requires { 0 < length part.old }
     ensures { IsPrefixLen result.count part.new }
 {
-    let got = libc::read(fd, part);
-    Came {
-        count: io::count(got, part),
-        is_failure: got < 0,
+    match input.read(part) {
+        Ok(count) => Came {
+            count,
+            failure: None,
+        },
+        Err(error) => Came {
+            count: 0,
+            failure: Some(error),
+        },
     }
 }
 
 // Reads until `part` is full: fewer octets came if the input ended or a read failed.
-pub fn fill_from(fd: i32, part: &mut [u8]) -> Came
+pub fn fill_from<R: Read>(input: &mut R, part: &mut [u8]) -> Came
     ensures { result.count ≤ length part.old }
 {
     let room = part.len();
     let mut done: usize = 0;
     while done < room {
-        let came = read_some(fd, &mut part[done..]);
+        let came = read_some(input, &mut part[done..]);
         if came.count == 0 {
             return Came {
                 count: done,
-                is_failure: came.is_failure,
+                failure: came.failure,
             };
         }
         done += came.count;
     }
     Came {
         count: done,
-        is_failure: false,
+        failure: None,
     }
 }
 
@@ -71,19 +80,19 @@ fn to_front(room: &mut [u8], from: usize, n: usize)
 }
 
 // One read behind what stands in `room` from `from` to before `to`, which is moved to the front first: how many octets came behind it.
-fn refill(fd: i32, room: &mut [u8], from: usize, to: usize) -> Came
+fn refill<R: Read>(input: &mut R, room: &mut [u8], from: usize, to: usize) -> Came
     requires { (from ≤ to) × (to ≤ length room.old) × (to - from < length room.old) }
     ensures count_in_bounds { (to - from) + result.count ≤ length room.new }
     ensures from_after { part room.new 0 (to - from) ≡ part room.old from (to - from) }
 {
     let kept = to - from;
     to_front(room, from, kept);
-    read_some(fd, &mut room[kept..])
+    read_some(input, &mut room[kept..])
 }
 
 // More octets behind those from `from` to before `to`, which are no whole record and are moved to the front: how many came. None come behind a wrong
 // mark, which no octet can mend (`broken_there`).
-pub fn fetch(fd: i32, room: &mut [u8], from: usize, to: usize) -> Came
+pub fn fetch<R: Read>(input: &mut R, room: &mut [u8], from: usize, to: usize) -> Came
     requires { (from ≤ to) × (to ≤ length room.old) × (65539 ≤ length room.old) }
     ensures count_bound { to + result.count ≤ from + length room.old }
     ensures from_after { 0 < result.count → part room.new 0 (to - from) ≡ part room.old from (to - from) }
@@ -91,8 +100,8 @@ pub fn fetch(fd: i32, room: &mut [u8], from: usize, to: usize) -> Came
     if 4 + announced_by(&room[from..to]) as usize <= to - from {
         return Came {
             count: 0,
-            is_failure: false,
+            failure: None,
         };
     }
-    refill(fd, room, from, to)
+    refill(input, room, from, to)
 }

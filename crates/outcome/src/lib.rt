@@ -1,52 +1,91 @@
-// How a run ended, told to whoever started the program. A program has no exit status of its own; started with an argument, which names its input,
-// it writes its status to descriptor 3: 0 all is well, 1 the input is broken, 2 the input can't be read or the output can't be written.
+// How a run ended, told to whoever started the program. A program that was started with an argument, which names its input, ends with the status of its
+// run: 0 all is well, 1 the input is broken, 2 the input can't be read or the output can't be written. One without an argument ends with 0.
+#![tactic(auto)]
 
-const STATUS: i32 = 3;
+use std::alloc::Global;
+use std::env::FillError;
+use std::io;
+use std::process::ExitCode;
+use std::rt::Env;
 
 #[derive(Drop)]
 pub enum Outcome {
     Done,
     Broken,
-    NotRead,
-    NotWritten,
+    NotRead(io::Error),
+    NotWritten(io::Error),
 }
 
-fn tell_status(digit: u8) {
-    if os::arg_count() > 1 {
-        io::write_all(STATUS, &[digit, b'\n']);
+// The program's argument, which then stands in `room`; none without one. One that is longer than a path can be has no name.
+pub fn input_name<'a>(rt: &impl Env, room: &'a mut [u8; 4096]) -> Option<&'a [u8]> {
+    match rt.arg(1, room) {
+        Ok(n) => Some(&room[..n]),
+        Err(FillError::TooLong) => Some(b""),
+        Err(FillError::NotPresent) => None,
     }
 }
 
-// Says why the last read failed. An input without a name is standard input.
-fn say_not_read(name: &[u8]) {
-    if name.len() == 0 {
-        os::fail(b"standard input");
-        return;
+fn tell_status(status: u8, is_named: bool) -> ExitCode {
+    if is_named {
+        return ExitCode::from(status);
     }
-    os::fail(name);
+    ExitCode::SUCCESS
 }
 
-// Tells the outcome of a run on the input of that name. It comes right behind the call that failed, whose errno it explains.
-pub fn tell(outcome: Outcome, name: &[u8]) {
-    match outcome {
-        Outcome::Done => tell_status(b'0'),
-        Outcome::Broken => tell_status(b'1'),
-        Outcome::NotRead => {
-            say_not_read(name);
-            tell_status(b'2');
+// The system's words on an error, without the number that std puts behind them.
+fn words_of(error: &str) -> &str {
+    match error.split_once(" (os error ") {
+        Some((words, _)) => words,
+        None => error,
+    }
+}
+
+// A line on `err`: what failed, a colon and why. Where it can't be written nobody is told.
+pub fn fail(err: &impl Print, alloc: Global, what: &[u8], error: io::Error) {
+    let _ = err.write_all(what);
+    let _ = match format!(in alloc; "{error}") {
+        Ok(text) => {
+            let words = words_of(text.as_str());
+            println!(err; ": {words}")
         }
-        Outcome::NotWritten => {
-            os::fail(b"standard output");
-            tell_status(b'2');
+        Err(_) => println!(err; ": {error}"),
+    };
+}
+
+// Says why the input was not read. An input without a name is standard input.
+fn say_not_read(err: &impl Print, alloc: Global, name: Option<&[u8]>, error: io::Error) {
+    match name {
+        Some(name) if name.len() > 0 => fail(err, alloc, name, error),
+        _ => fail(err, alloc, b"standard input", error),
+    }
+}
+
+// Tells the outcome of a run on the input of that name: on `err` what failed, and the status that the program is to end with.
+pub fn tell(err: &impl Print, alloc: Global, outcome: Outcome, name: Option<&[u8]>) -> ExitCode {
+    let is_named = name.is_some();
+    match outcome {
+        Outcome::Done => tell_status(0, is_named),
+        Outcome::Broken => tell_status(1, is_named),
+        Outcome::NotRead(error) => {
+            say_not_read(err, alloc, name, error);
+            tell_status(2, is_named)
+        }
+        Outcome::NotWritten(error) => {
+            fail(err, alloc, b"standard output", error);
+            tell_status(2, is_named)
         }
     }
 }
 
 // The outcome of a program that only writes.
-pub fn tell_written(is_written: bool) {
-    if is_written {
-        tell(Outcome::Done, b"");
-        return;
+pub fn tell_written(
+    err: &impl Print,
+    alloc: Global,
+    written: io::Result<()>,
+    name: Option<&[u8]>,
+) -> ExitCode {
+    match written {
+        Ok(()) => tell(err, alloc, Outcome::Done, name),
+        Err(error) => tell(err, alloc, Outcome::NotWritten(error), name),
     }
-    tell(Outcome::NotWritten, b"");
 }
