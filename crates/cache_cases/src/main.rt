@@ -1,4 +1,6 @@
 // Lists each cache of data/, under its name, and says how the listing ended: the cases at the listing's edges, and a folder, which can't be read.
+#![tactic(auto)]
+
 use libc::STDOUT_FILENO;
 use listing::list;
 use outcome::Outcome;

@@ -1,4 +1,6 @@
 // Lists the references of a cache that comes from standard input; its argument is the input's name.
+#![tactic(auto)]
+
 use libc::STDIN_FILENO;
 use listing::list;
 use outcome::tell;

@@ -1,4 +1,6 @@
 // Input from a descriptor into lent slices: parts of a known length, and the records of a cache in blocks. A read that fails is told apart from the input's end.
+#![tactic(auto)]
+
 ghost use Rattle.std.specs.Prelude.{◌≡◌, ◌+◌, ◌-◌, ◌≤◌, ◌<◌, length};
 ghost use Rattle.io.specs.Counts.{IsPrefixLen};
 ghost use Rattle.octets.specs.Octets.{part, splice};

@@ -1,5 +1,7 @@
 // The listing of a cache that comes from a file descriptor, to standard output, in blocks. What octets mean and what a line says is decided in
 // crate rows, how they come in crate intake.
+#![tactic(auto)]
+
 ghost use Rattle.std.specs.Prelude.{◌≤◌, length, ◌≡◌};
 ghost use Rattle.table.specs.Flat.{Lent};
 

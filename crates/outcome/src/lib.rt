@@ -1,6 +1,8 @@
 // How a run ended, told to whoever started the program. A program has no exit status of its own; started with an argument, which names its input,
 // it writes its status to descriptor 3: 0 all is well, 1 the input is broken, 2 the input can't be read or the output can't be written.
 
+#![tactic(auto)]
+
 const STATUS: i32 = 3;
 
 #[derive(Drop)]
