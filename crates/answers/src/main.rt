@@ -1,5 +1,7 @@
 // Answers requests from standard input, whose name is the argument, a line for each, until the input ends; a bad request ends the run. docs/ANSWERS.md has the form of a
 // request and of a line.
+#![tactic(auto)]
+
 ghost use Rattle.std.specs.Prelude.{◌≡◌, ◌*◌, ◌≤◌, length, replicate};
 ghost use Rattle.octets.specs.Octets.{be, part};
 ghost use Rattle.table.specs.Region.{listed};

@@ -1,5 +1,7 @@
 // What is wrong with a lent table, in the order of document 01: the checks that measuring makes (6, 8, 9, 10), from one survey of the table, and the
 // check for 2 that only writing makes. Only where some view lies outside the source are they looked at one by one, to tell the first.
+#![tactic(auto)]
+
 ghost use Rattle.std.specs.Prelude.{◌≡◌, ◌+◌, ◌*◌, ◌≤◌, ◌<◌, min, length, get_or, false};
 ghost use Rattle.octets.specs.Octets.{part};
 ghost use Rattle.reference.specs.declared.Check.TheVariants.{Pass, Refuse};

@@ -1,5 +1,7 @@
 // The guide's program: reads a reference, looks at its tables, asks the questions, and writes it anew; and the same by a table that it lends.
 // Each function that says something answers whether it could be written.
+#![tactic(auto)]
+
 use ior::{FlatTable, TABLE};
 use libc::STDOUT_FILENO;
 use outcome::tell_written;

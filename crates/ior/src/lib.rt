@@ -2,6 +2,8 @@
 // every slice, every table and every output gets an answer. A refusal is a number, a place and two figures (document 01), and of a reading the
 // offset in its slice where it broke (document 02, No. 3; else 0). The promises about these calls stand in proofs/Demands and, of those on a lent
 // table, in proofs/Lent.
+#![tactic(auto)]
+
 ghost use Rattle.std.specs.Prelude.{◌≡◌};
 ghost use Rattle.reference.specs.Steps.{seen};
 ghost use Rattle.reference.specs.Today.{read_leading, read_whole, answered, measured};

@@ -2,6 +2,8 @@
 // (include/ior.h). A table has 490 numbers (crate table), an answer six: number, place, both figures, the count, and the offset where a reading broke.
 // An array of another length, a table with a number that is wider than its field, or a number that names no rule or way is answered with 255, and nothing
 // is changed. What the arrays hold and how long they are is asked of no caller; that the pointers are right, C can't check.
+#![tactic(auto)]
+
 ghost use Rattle.std.specs.Prelude.{◌≡◌, length};
 ghost use Rattle.reference.specs.Questions.{first_biop};
 ghost use Rattle.table.specs.Flat.{tables_from, name_from, name_numbers, Lent};

@@ -1,5 +1,7 @@
 // The lines that the program `answers` prints, put into a lent slice: each function stores at `at` and answers the position after what it stored.
 // What each sort of answer is as text stands in specs/Lines.
+#![tactic(auto)]
+
 ghost use Rattle.std.specs.Prelude.{◌+◌, ◌*◌, ◌≤◌, length};
 ghost use Rattle.text.specs.Written.{Written};
 ghost use Rattle.lines.specs.Lines.{refusal_text, accepted_text, answer_text, where_text, item_text, table_text, output_text, kind_text, tap_text, name_text, first_text};

@@ -1,5 +1,7 @@
 // The name component with lengths of one octet, both ways (document 01, "The 8-bit name"). Each contract says what the answer is, and what the output
 // then holds, in the terms of reference's specs/Names.
+#![tactic(auto)]
+
 ghost use Rattle.std.specs.Prelude.{◌≡◌, ◌++◌, ◌+◌, ◌<◌, ◌≤◌, length};
 ghost use Rattle.octets.specs.Octets.{octets};
 ghost use Rattle.octets.specs.Put.{Put};

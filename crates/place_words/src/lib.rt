@@ -1,4 +1,6 @@
 // Document 01's places in words, for the lines that people read.
+#![tactic(auto)]
+
 ghost use Rattle.std.specs.Prelude.{◌≡◌, ◌+◌, ◌≤◌, length, take};
 ghost use Rattle.text.specs.Written.{Written};
 ghost use Rattle.place_words.specs.Words.{place_text, inked};

@@ -1,5 +1,7 @@
 // Questions about a reference's parts: an object's kind, a tap's two numbers, the first BIOP profile, and whether an address is DVB's.
 // Each contract says what the answer is in the terms of reference's specs/Questions.
+#![tactic(auto)]
+
 ghost use Rattle.std.specs.Prelude.{◌≡◌, [], ◌<◌, eqb, get_or};
 ghost use Rattle.octets.specs.Octets.{be};
 ghost use Rattle.reference.specs.Questions.{is_biop, kinds, kind_numbered, kind_of, tap_numbers_of, first_biop, dvb_address};

@@ -1,6 +1,8 @@
 // Reads the data of a BIOP profile into a lent table: the ObjectLocation, the taps of the ConnBinder and the extras. A reader looks at
 // d[pos..end]; `base` says where d stands in the caller's slice, and is added to views only, so that the figures of a refusal count from
 // the start of d.
+#![tactic(auto)]
+
 ghost use Rattle.std.specs.Prelude.{◌≡◌, ◌+◌, ◌≤◌, length};
 ghost use Rattle.reference.specs.Meaning.{biop};
 ghost use Rattle.reference.specs.Places.{place_location_leftover};

@@ -1,6 +1,8 @@
 // The data of a LiteOptions profile, read into a lent table: a ServiceLocation (address, names, context), then extras. A reader looks at
 // d[pos..end]; `base` says where d stands in the caller's slice, and is added to views only, so that the figures of a refusal count from
 // the start of d.
+#![tactic(auto)]
+
 ghost use Rattle.std.specs.Prelude.{◌≡◌, ◌+◌, ◌≤◌, length};
 ghost use Rattle.reference.specs.Meaning.{lite};
 ghost use Rattle.reference.specs.Reader.{read_run, read_name, read_context, read_lite};

@@ -1,6 +1,8 @@
 // What the two profile bodies share: the order octet and the component count, extra components, and how a run of entries is read into a
 // lent table. A reader looks at d[pos..end]; `base` says where d stands in the caller's slice, and is added to views only, so that the
 // figures of a refusal count from the start of d.
+#![tactic(auto)]
+
 ghost use Rattle.std.specs.Prelude.{◌≡◌, ◌+◌, ◌≤◌, length};
 ghost use Rattle.reference.specs.Reader.{read_extra, read_fixed};
 ghost use Rattle.reference.specs.Steps.{many, ending, seen};

@@ -1,5 +1,7 @@
 // Reads a leading reference, or a whole slice, into a lent table and by value. Figures count from the start of the slice,
 // inside a profile from the start of its data; views always count from the start of the caller's slice.
+#![tactic(auto)]
+
 ghost use Rattle.std.specs.Prelude.{◌≡◌, ℕ, ◌+◌, ◌≤◌, List, length};
 ghost use Rattle.octets.specs.Octets.{splice};
 ghost use Rattle.reference.specs.Steps.{Answer as Read, ok, seen, many};

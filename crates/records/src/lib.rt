@@ -1,4 +1,6 @@
 // Marked records of a cache (document 01, "Cache listing"): what stands at a place, and how many octets a record's head announces.
+#![tactic(auto)]
+
 ghost use Rattle.std.specs.Prelude.{◌≡◌};
 ghost use Rattle.records.specs.Records.{record_at, announced};
 

@@ -110,10 +110,12 @@ sized_no false n (refused z) e = inr (tt, e)
 pub wrongs : (n : ℕ) → Among n (3 ∷ 4 ∷ []) → (3 ≤ n) × (n ≤ 4)
 wrongs n (inl e) = (omega arith, omega arith)
 wrongs n (inr (inl e)) = (omega arith, omega arith)
+wrongs n (inr (inr x)) = elim x [ ]
 
 lates : (n : ℕ) → Among n (6 ∷ 7 ∷ []) → 6 ≤ n
 lates n (inl e) = omega arith
 lates n (inr (inl e)) = omega arith
+lates n (inr (inr x)) = elim x [ ]
 
 late_points : (rule : TypeIdRule) (d : List ℕ) (x : Refusal) → Late x → Points rule d x
 late_points rule d x l =

@@ -379,7 +379,7 @@ module _ {A B : Type 0} {good : A → Type 0} {lay : A → List ℕ} {good' : B 
         short = λ d pos end c a s g.
             let l = lay' (get a) in
             let mid = pos + length l in
-            let go : (b : Bool) → leb mid end ≡ b → Short (followed (r d pos end) (λ b mid. f b d mid end)) = λ b. elim b [
+            let go : (b : Bool) → leb mid end ≡ b → Short (followed (r d pos end) (λ b mid. f b d mid end)) = λ b. elim b as (λ b. leb mid end ≡ b → Short (followed (r d pos end) (λ b mid. f b d mid end))) [
               | true ↦ λ e.
                   let room : mid ≤ end = leb→le mid end (rw e tt) in
                   let p = h.complete d pos end c (get a) mid (cut_found l (lay a) s room) (sub a g) in
@@ -548,7 +548,7 @@ module _ {A : Type 0} {good : A → Type 0} {lay : A → List ℕ} {r : Reader A
       let l = joined (map lay xs) in
       let mid = pos + length (lay x) in
       let k : A → ℕ → Answer (List A) = λ a mid. followed (many n r d mid end) (λ l last. ok (a ∷ l) last) in
-      let go : (b : Bool) → leb mid end ≡ b → Short (followed (r d pos end) k) = λ b. elim b [
+      let go : (b : Bool) → leb mid end ≡ b → Short (followed (r d pos end) k) = λ b. elim b as (λ b. leb mid end ≡ b → Short (followed (r d pos end) k)) [
         | true ↦ λ q.
             let room : mid ≤ end = leb→le mid end (rw q tt) in
             let p = h.complete d pos end c x mid (cut_found (lay x) l s room) g.0 in

@@ -116,7 +116,7 @@ module _ {A : Type 0} {F : Fields} (which : Which) {d : List ℕ} {pos end : ℕ
       let x = wrong_at n place pos in
       let again : (e : List ℕ) (last k : ℕ) → take k e ≡ take k d → pos + w ≤ k → checked w test n place f e pos last ≡ pick (test v) (f v e (pos + w) last) (refused x) =
       λ e last k h' l. ap (λ (u : ℕ). pick (test u) (f u e (pos + w) last) (refused x)) (ap be (same_part d e pos w k h' l)) in
-      let go : (b : Bool) → test v ≡ b → Knows F (Asked which end) (checked w test n place f) d pos end (pick b (f v d (pos + w) end) (refused x)) = λ b. elim b [
+      let go : (b : Bool) → test v ≡ b → Knows F (Asked which end) (checked w test n place f) d pos end (pick b (f v d (pos + w) end) (refused x)) = λ b. elim b as (λ b. test v ≡ b → Knows F (Asked which end) (checked w test n place f) d pos end (pick b (f v d (pos + w) end) (refused x))) [
         | true ↦ λ q. knows_by s (omega arith) λ e last k el h' re.
             again e last k h' (omega (arith, s.from)) ∙ pass_pass (test v) (f v e (pos + w) last) (refused x) (rw q tt)
         | false ↦ λ q. record {

@@ -1,5 +1,7 @@
 // An object reference as tables over the caller's slice (document 01, "Tables"): the types that callers hold, the empty tables, the wire's
 // constants, and one constructor for each sort of refusal. What a reader must believe of them stands in specs/.
+#![tactic(auto)]
+
 ghost use Rattle.std.specs.Prelude.{◌≡◌, ◌+◌, ◌≤◌};
 ghost use Rattle.reference.specs.Layout.{gap_length, allowed};
 ghost use Rattle.reference.specs.Refusals.{refusal, cut_at, left_at, long_at, wrong_at, shifted};
@@ -7,26 +9,26 @@ ghost use Rattle.reference.specs.Tabled.{no_tables};
 
 // Which type ids a reference may have (document 02, No. 11). Rule 1: of a length that is a multiple of 4. Rule 2: of any length, with a gap of octets FF
 // behind it up to the next multiple of 4.
-#[derive(Drop)]
+#[derive(Clone, Copy)]
 pub enum TypeIdRule {
     Multiple,
     Gap,
 }
 
 // How an address is written: with the constants of its kind.
-#[derive(Drop)]
+#[derive(Clone, Copy)]
 pub enum AddressWay {
     Constants,
 }
 
 // A run of octets in the caller's slice.
-#[derive(Drop)]
+#[derive(Clone, Copy)]
 pub struct View {
     pub at: u32,
     pub len: u32,
 }
 
-#[derive(Drop)]
+#[derive(Clone, Copy)]
 pub struct Tap {
     pub id: u16,
     pub use_: u16,
@@ -34,19 +36,19 @@ pub struct Tap {
     pub selector: View,
 }
 
-#[derive(Drop)]
+#[derive(Clone, Copy)]
 pub struct NameComponent {
     pub id: View,
     pub kind: View,
 }
 
-#[derive(Drop)]
+#[derive(Clone, Copy)]
 pub struct LiteComponent {
     pub tag: u32,
     pub data: View,
 }
 
-#[derive(Drop)]
+#[derive(Clone, Copy)]
 pub struct ObjectLocation {
     pub carousel: u32,
     pub module: u16,
@@ -56,7 +58,7 @@ pub struct ObjectLocation {
 }
 
 // What varies in an address of twenty octets; the constants belong to the kind itself.
-#[derive(Drop)]
+#[derive(Clone, Copy)]
 pub struct NsapAddress {
     pub carousel: u32,
     pub specifier0: u8,
@@ -81,7 +83,7 @@ impl NsapAddress {
 }
 
 // A profile's taps, names and extras are the next so many of the tables. Opaque comes first: an unused entry is an opaque one.
-#[derive(Drop)]
+#[derive(Clone, Copy)]
 pub enum TaggedProfile {
     Opaque {
         tag: u32,
@@ -100,7 +102,7 @@ pub enum TaggedProfile {
     },
 }
 
-#[derive(Drop)]
+#[derive(Clone, Copy)]
 pub struct Profile {
     pub body: TaggedProfile,
 }
@@ -120,7 +122,7 @@ pub struct Tables {
 
 // Why something is refused: document 01's number, place and two figures, and the offset in the caller's slice where a reading broke
 // (0 for 6, 7 and in writing).
-#[derive(Drop)]
+#[derive(Clone, Copy)]
 pub struct Refusal {
     pub number: u8,
     pub place: u8,
@@ -150,7 +152,7 @@ pub enum Check {
 }
 
 // The kind of an object; an unknown one with its four octets as a number.
-#[derive(Drop)]
+#[derive(Clone, Copy)]
 pub enum ObjectKind {
     Directory,
     File,

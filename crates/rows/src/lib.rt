@@ -1,4 +1,6 @@
 // The rows of a cache's listing as octets. Where `is_where` is set they tell of a refused record, behind 01's columns, where it broke.
+#![tactic(auto)]
+
 ghost use Rattle.std.specs.Prelude.{◌+◌, ◌≤◌, ◌<◌, length};
 ghost use Rattle.text.specs.Written.{Written};
 ghost use Rattle.reference.specs.Today.{read_whole};

@@ -2,6 +2,8 @@
 // number fits its field, and whether every view ends within the source. Only used entries are looked at, at most as many as a table holds.
 //
 // A mark is a number that stays below 65536 exactly if something holds; marks or'ed together stay below exactly if all of it holds.
+#![tactic(auto)]
+
 ghost use Rattle.std.specs.Prelude.{◌≡◌, ◌+◌, ◌*◌, ◌≤◌, ◌<◌, min, length, get_or};
 ghost use Rattle.table.specs.Flat.{profile_region, tap_region, table_size, Lent, profiles_used, taps_used};
 ghost use Rattle.survey.specs.Exact.{profiles_exact, taps_exact, exact};

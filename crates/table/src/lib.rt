@@ -1,5 +1,7 @@
 // Tables as 490 numbers in a slice that the caller lends: entries are stored into it. Reading and writing work on such a table, since a
 // struct of the tables' size that goes through functions by value is copied at each. specs/Flat says which number is what.
+#![tactic(auto)]
+
 ghost use Rattle.std.specs.Prelude.{◌≡◌, ◌+◌, ◌≤◌, ◌<◌, length, get_or, replicate};
 ghost use Rattle.octets.specs.Octets.{splice};
 ghost use Rattle.reference.specs.declared.TaggedProfile.TheVariants as Sort;

@@ -1,4 +1,6 @@
 // Typed entries out of a lent table, each as the definition of the flat table tells it.
+#![tactic(auto)]
+
 ghost use Rattle.std.specs.Prelude.{◌≡◌, ◌+◌, ◌≤◌, ◌<◌, length, get_or};
 ghost use Rattle.reference.specs.Used.{taps_in, names_in, extras_in, body_view};
 ghost use Rattle.table.specs.Flat.{view_from, location_from, address_from, body_of_table, tap_of_table, name_of_table, extra_of_table, profile_region, tap_region, name_region, extra_region, Lent, view_at};

@@ -1,5 +1,7 @@
 // The way between the tables as a struct and the lent table. Every entry goes over, used or not, so that the two are inverse
 // with no talk of counts.
+#![tactic(auto)]
+
 ghost use Rattle.std.specs.Prelude.{◌≡◌, ◌<◌};
 ghost use Rattle.octets.specs.Octets.{splice};
 ghost use Rattle.table.specs.Region.{stored, entry};

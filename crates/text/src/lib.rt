@@ -1,4 +1,6 @@
 // Text in ASCII, put into a lent slice: each function stores at `at` and answers the position after what it stored. Text knows no reference.
+#![tactic(auto)]
+
 ghost use Rattle.std.specs.Prelude.{◌≡◌, [], ◌∷◌, ◌+◌, ◌*◌, ◌≤◌, ◌<◌, length};
 ghost use Rattle.octets.specs.Octets.{octets};
 ghost use Rattle.octets.specs.Put.{Put};

@@ -2,6 +2,8 @@
 // number, place, two figures, and octets consumed or written; then type ids with a gap under both rules, and a DVB address with each octet at each
 // other value. Behind each reference, read or written, stands how often it was refused, and with which number, when it was cut at each octet. What must
 // come out stands in stdout, from documents 01 and 02.
+#![tactic(auto)]
+
 ghost use Rattle.std.specs.Prelude.{◌+◌, ◌<◌, ◌≤◌, length};
 
 use ior::AddressOctets;

@@ -1,5 +1,7 @@
 // The profiles of a reference's image, from a lent table. A writer stores at `at` and answers the position after what it stored; a header is
 // stored after what it stands before: by then its length is known, and no size is summed twice.
+#![tactic(auto)]
+
 ghost use Rattle.std.specs.Prelude.{map, ◌+◌, ◌≤◌, length};
 ghost use Rattle.octets.specs.Octets.{Each};
 ghost use Rattle.octets.specs.Put.{Put};

@@ -1,5 +1,7 @@
 // The parts of a reference's image, each from a value: a writer stores at `at` and answers the position after what it stored. What it needs of
 // its arguments the caller has checked.
+#![tactic(auto)]
+
 ghost use Rattle.std.specs.Prelude.{◌++◌, ◌+◌, ◌≤◌, length};
 ghost use Rattle.octets.specs.Octets.{octets};
 ghost use Rattle.octets.specs.Put.{Put};
