@@ -6,18 +6,20 @@ ghost use Rattle.std.specs.Prelude.{◌≡◌, ◌*◌, ◌≤◌, length, repli
 ghost use Rattle.octets.specs.Octets.{be, part};
 ghost use Rattle.table.specs.Region.{listed};
 ghost use Rattle.table.specs.Flat.{table_size, Lent};
-ghost use Rattle.io.specs.Counts.{IsPrefixLen};
+ghost use Rattle.intake.specs.Counts.{IsPrefixLen};
 
 use faults::length_from;
 use intake::fill_from;
-use libc::{STDIN_FILENO, STDOUT_FILENO};
 use lines::{put_answer, put_first, put_kind, put_name, put_output, put_table, put_tap, put_where};
 use names::{ShortNameRead, read_short_name, write_short_name};
 use octets::{be16, be32};
-use outcome::{Outcome, tell};
+use outcome::{Outcome, input_name, tell};
 use questions::{first_biop, is_dvb, object_kind, tap_numbers};
 use reading::{read_leading_into_by, read_whole_into_by};
 use reference::{AddressWay, Answer, NameComponent, TypeIdRule, View};
+use std::io;
+use std::io::{ErrorKind, Read};
+use std::process::ExitCode;
 use survey::is_exact;
 use table::{SIZE, clear};
 use table_struct::tables_of;
@@ -35,23 +37,23 @@ const BEFORE: u8 = 0xA5;
 struct Found {
     count: usize,
     is_none: bool,
-    is_failure: bool,
+    failure: Option<io::Error>,
 }
 
-fn none(is_failure: bool) -> Found
+fn none(failure: Option<io::Error>) -> Found
     ensures { result.count ≡ 0 }
 {
     Found {
         count: 0,
         is_none: true,
-        is_failure,
+        failure,
     }
 }
 
 fn bad() -> Found
     ensures { result.count ≡ 0 }
 {
-    none(false)
+    none(None)
 }
 
 fn counted(count: usize) -> Found
@@ -60,20 +62,20 @@ fn counted(count: usize) -> Found
     Found {
         count,
         is_none: false,
-        is_failure: false,
+        failure: None,
     }
 }
 
 // ---- the parts of a request
 
 // Fills `part` from standard input; none if that ends before.
-fn take(part: &mut [u8]) -> Found
+fn take<R: Read>(input: &mut R, part: &mut [u8]) -> Found
     ensures { result.count ≤ length part.old }
 {
     let n = part.len();
-    let came = fill_from(STDIN_FILENO, part);
+    let came = fill_from(input, part);
     if came.count < n {
-        return none(came.is_failure);
+        return none(came.failure);
     }
     counted(n)
 }
@@ -89,29 +91,29 @@ fn within(n: usize, room: &[u8]) -> Found
 }
 
 // The count of a source, or of an output, for which there is room.
-fn take_size(room: &[u8]) -> Found
+fn take_size<R: Read>(input: &mut R, room: &[u8]) -> Found
     ensures { IsPrefixLen result.count room.now }
 {
     let mut four = [0u8; 4];
-    let taken = take(&mut four);
+    let taken = take(input, &mut four);
     if taken.is_none {
-        return none(taken.is_failure);
+        return none(taken.failure);
     }
     within(be32(&four, 0) as usize, room)
 }
 
 // The octets of a source, at the start of `src`.
-fn take_source(src: &mut [u8]) -> Found
+fn take_source<R: Read>(input: &mut R, src: &mut [u8]) -> Found
     ensures { IsPrefixLen result.count src.new }
 {
-    let size = take_size(src);
+    let size = take_size(input, src);
     if size.is_none {
-        return none(size.is_failure);
+        return none(size.failure);
     }
     let n = size.count;
-    let taken = take(&mut src[..n]);
+    let taken = take(input, &mut src[..n]);
     if taken.is_none {
-        return none(taken.is_failure);
+        return none(taken.failure);
     }
     within(n, src)
 }
@@ -129,13 +131,13 @@ fn put_numbers(octets: &[u8], table: &mut [u32])
 }
 
 // A table from outside; none if it is cut or not exact.
-fn take_table(table: &mut [u32]) -> Found
+fn take_table<R: Read>(input: &mut R, table: &mut [u32]) -> Found
     requires { Lent table.old }
 {
     let mut octets = [0u8; TABLE_OCTETS];
-    let taken = take(&mut octets);
+    let taken = take(input, &mut octets);
     if taken.is_none {
-        return none(taken.is_failure);
+        return none(taken.failure);
     }
     put_numbers(&octets, table);
     if !is_exact(table) {
@@ -195,7 +197,8 @@ fn read_line(
     put_table(line, at, table)
 }
 
-fn answer_reading(
+fn answer_reading<R: Read>(
+    input: &mut R,
     is_whole: bool,
     is_where: bool,
     rule: TypeIdRule,
@@ -206,39 +209,51 @@ fn answer_reading(
     requires { Lent table.old × (length src.old ≡ 70000) × (length line.old ≡ 150000) }
     ensures { result.count ≤ 149999 }
 {
-    let taken = take_source(src);
+    let taken = take_source(input, src);
     if taken.is_none {
-        return none(taken.is_failure);
+        return none(taken.failure);
     }
     let n = taken.count;
     counted(read_line(is_whole, is_where, rule, &src[..n], table, line))
 }
 
 // The line that tells where a reading broke.
-fn answer_where(is_whole: bool, table: &mut [u32], src: &mut [u8], line: &mut [u8]) -> Found
+fn answer_where<R: Read>(
+    input: &mut R,
+    is_whole: bool,
+    table: &mut [u32],
+    src: &mut [u8],
+    line: &mut [u8],
+) -> Found
     requires { Lent table.old × (length src.old ≡ 70000) × (length line.old ≡ 150000) }
     ensures { result.count ≤ 149999 }
 {
-    let taken = take_source(src);
+    let taken = take_source(input, src);
     if taken.is_none {
-        return none(taken.is_failure);
+        return none(taken.failure);
     }
     let n = taken.count;
     let answer = read_by(is_whole, &src[..n], table, TypeIdRule::Multiple);
     counted(put_where(line, 0, answer))
 }
 
-fn answer_length(rule: TypeIdRule, table: &mut [u32], src: &mut [u8], line: &mut [u8]) -> Found
+fn answer_length<R: Read>(
+    input: &mut R,
+    rule: TypeIdRule,
+    table: &mut [u32],
+    src: &mut [u8],
+    line: &mut [u8],
+) -> Found
     requires { Lent table.old × (length src.old ≡ 70000) × (length line.old ≡ 150000) }
     ensures { result.count ≤ 149999 }
 {
-    let numbers = take_table(table);
+    let numbers = take_table(input, table);
     if numbers.is_none {
-        return none(numbers.is_failure);
+        return none(numbers.failure);
     }
-    let taken = take_source(src);
+    let taken = take_source(input, src);
     if taken.is_none {
-        return none(taken.is_failure);
+        return none(taken.failure);
     }
     let n = taken.count;
     let answer = length_from(table, &src[..n], rule);
@@ -270,7 +285,8 @@ fn write_line(
     written_line(answer, out, line)
 }
 
-fn answer_writing(
+fn answer_writing<R: Read>(
+    input: &mut R,
     rule: TypeIdRule,
     way: AddressWay,
     table: &mut [u32],
@@ -281,61 +297,61 @@ fn answer_writing(
     requires { Lent table.old × (length src.old ≡ 70000) × (length out.old ≡ 70000) × (length line.old ≡ 150000) }
     ensures { result.count ≤ 149999 }
 {
-    let numbers = take_table(table);
+    let numbers = take_table(input, table);
     if numbers.is_none {
-        return none(numbers.is_failure);
+        return none(numbers.failure);
     }
-    let room = take_size(out);
+    let room = take_size(input, out);
     if room.is_none {
-        return none(room.is_failure);
+        return none(room.failure);
     }
     let m = room.count;
-    let taken = take_source(src);
+    let taken = take_source(input, src);
     if taken.is_none {
-        return none(taken.is_failure);
+        return none(taken.failure);
     }
     let n = taken.count;
     counted(write_line(rule, way, table, &src[..n], &mut out[..m], line))
 }
 
-fn answer_kind(src: &mut [u8], line: &mut [u8]) -> Found
+fn answer_kind<R: Read>(input: &mut R, src: &mut [u8], line: &mut [u8]) -> Found
     requires { (length src.old ≡ 70000) × (length line.old ≡ 150000) }
     ensures { result.count ≤ 149999 }
 {
-    let taken = take_source(src);
+    let taken = take_source(input, src);
     if taken.is_none {
-        return none(taken.is_failure);
+        return none(taken.failure);
     }
     let n = taken.count;
     let kind = object_kind(&src[..n]);
     counted(put_kind(line, 0, kind))
 }
 
-fn answer_tap(src: &mut [u8], line: &mut [u8]) -> Found
+fn answer_tap<R: Read>(input: &mut R, src: &mut [u8], line: &mut [u8]) -> Found
     requires { (length src.old ≡ 70000) × (length line.old ≡ 150000) }
     ensures { result.count ≤ 149999 }
 {
     let mut two = [0u8; 2];
-    let tap = take(&mut two);
+    let tap = take(input, &mut two);
     if tap.is_none {
-        return none(tap.is_failure);
+        return none(tap.failure);
     }
-    let taken = take_source(src);
+    let taken = take_source(input, src);
     if taken.is_none {
-        return none(taken.is_failure);
+        return none(taken.failure);
     }
     let n = taken.count;
     let numbers = tap_numbers(be16(&two, 0), &src[..n]);
     counted(put_tap(line, 0, numbers))
 }
 
-fn answer_name(src: &mut [u8], line: &mut [u8]) -> Found
+fn answer_name<R: Read>(input: &mut R, src: &mut [u8], line: &mut [u8]) -> Found
     requires { (length src.old ≡ 70000) × (length line.old ≡ 150000) }
     ensures { result.count ≤ 149999 }
 {
-    let taken = take_source(src);
+    let taken = take_source(input, src);
     if taken.is_none {
-        return none(taken.is_failure);
+        return none(taken.failure);
     }
     let n = taken.count;
     let name = read_short_name(&src[..n]);
@@ -350,13 +366,13 @@ fn without_views(name: ShortNameRead) -> Answer {
     }
 }
 
-fn answer_name_where(src: &mut [u8], line: &mut [u8]) -> Found
+fn answer_name_where<R: Read>(input: &mut R, src: &mut [u8], line: &mut [u8]) -> Found
     requires { (length src.old ≡ 70000) × (length line.old ≡ 150000) }
     ensures { result.count ≤ 149999 }
 {
-    let taken = take_source(src);
+    let taken = take_source(input, src);
     if taken.is_none {
-        return none(taken.is_failure);
+        return none(taken.failure);
     }
     let n = taken.count;
     let answer = without_views(read_short_name(&src[..n]));
@@ -387,49 +403,54 @@ fn write_name_line(name: NameComponent, src: &[u8], out: &mut [u8], line: &mut [
     written_line(answer, out, line)
 }
 
-fn answer_name_writing(src: &mut [u8], out: &mut [u8], line: &mut [u8]) -> Found
+fn answer_name_writing<R: Read>(
+    input: &mut R,
+    src: &mut [u8],
+    out: &mut [u8],
+    line: &mut [u8],
+) -> Found
     requires { (length src.old ≡ 70000) × (length out.old ≡ 70000) × (length line.old ≡ 150000) }
     ensures { result.count ≤ 149999 }
 {
     let mut views = [0u8; 16];
-    let four = take(&mut views);
+    let four = take(input, &mut views);
     if four.is_none {
-        return none(four.is_failure);
+        return none(four.failure);
     }
     let name = name_of(&views);
-    let room = take_size(out);
+    let room = take_size(input, out);
     if room.is_none {
-        return none(room.is_failure);
+        return none(room.failure);
     }
     let m = room.count;
-    let taken = take_source(src);
+    let taken = take_source(input, src);
     if taken.is_none {
-        return none(taken.is_failure);
+        return none(taken.failure);
     }
     let n = taken.count;
     counted(write_name_line(name, &src[..n], &mut out[..m], line))
 }
 
-fn answer_first(table: &mut [u32], line: &mut [u8]) -> Found
+fn answer_first<R: Read>(input: &mut R, table: &mut [u32], line: &mut [u8]) -> Found
     requires { Lent table.old × (length line.old ≡ 150000) }
     ensures { result.count ≤ 149999 }
 {
-    let numbers = take_table(table);
+    let numbers = take_table(input, table);
     if numbers.is_none {
-        return none(numbers.is_failure);
+        return none(numbers.failure);
     }
     let first = first_biop(tables_of(table));
     counted(put_first(line, 0, first))
 }
 
-fn answer_address(line: &mut [u8]) -> Found
+fn answer_address<R: Read>(input: &mut R, line: &mut [u8]) -> Found
     requires { length line.old ≡ 150000 }
     ensures { result.count ≤ 149999 }
 {
     let mut address = [0u8; 20];
-    let taken = take(&mut address);
+    let taken = take(input, &mut address);
     if taken.is_none {
-        return none(taken.is_failure);
+        return none(taken.failure);
     }
     if is_dvb(address) {
         return counted(put_word(line, 0, b"yes"));
@@ -443,30 +464,30 @@ fn answer_address(line: &mut [u8]) -> Found
 #[derive(Drop)]
 enum RuleTaken {
     Rule(TypeIdRule),
-    None { is_failure: bool },
+    None { failure: Option<io::Error> },
 }
 
-fn take_rule() -> RuleTaken {
+fn take_rule<R: Read>(input: &mut R) -> RuleTaken {
     let mut one = [0u8; 1];
-    let taken = take(&mut one);
+    let taken = take(input, &mut one);
     if taken.is_none {
         return RuleTaken::None {
-            is_failure: taken.is_failure,
+            failure: taken.failure,
         };
     }
     match one[0] {
         1 => RuleTaken::Rule(TypeIdRule::Multiple),
         2 => RuleTaken::Rule(TypeIdRule::Gap),
-        _ => RuleTaken::None { is_failure: false },
+        _ => RuleTaken::None { failure: None },
     }
 }
 
 // The octet of a way: there is one.
-fn take_way() -> Found {
+fn take_way<R: Read>(input: &mut R) -> Found {
     let mut one = [0u8; 1];
-    let taken = take(&mut one);
+    let taken = take(input, &mut one);
     if taken.is_none {
-        return none(taken.is_failure);
+        return none(taken.failure);
     }
     if one[0] != 1 {
         return bad();
@@ -474,7 +495,8 @@ fn take_way() -> Found {
     counted(1)
 }
 
-fn answer_writing_by(
+fn answer_writing_by<R: Read>(
+    input: &mut R,
     rule: TypeIdRule,
     table: &mut [u32],
     src: &mut [u8],
@@ -484,14 +506,15 @@ fn answer_writing_by(
     requires { Lent table.old × (length src.old ≡ 70000) × (length out.old ≡ 70000) × (length line.old ≡ 150000) }
     ensures { result.count ≤ 149999 }
 {
-    let way = take_way();
+    let way = take_way(input);
     if way.is_none {
-        return none(way.is_failure);
+        return none(way.failure);
     }
-    answer_writing(rule, AddressWay::Constants, table, src, out, line)
+    answer_writing(input, rule, AddressWay::Constants, table, src, out, line)
 }
 
-fn answer_under(
+fn answer_under<R: Read>(
+    input: &mut R,
     op: u8,
     rule: TypeIdRule,
     table: &mut [u32],
@@ -503,34 +526,49 @@ fn answer_under(
     ensures { result.count ≤ 149999 }
 {
     match op {
-        14 => answer_reading(false, true, rule, table, src, line),
-        15 => answer_reading(true, true, rule, table, src, line),
-        16 => answer_length(rule, table, src, line),
-        _ => answer_writing_by(rule, table, src, out, line),
+        14 => answer_reading(input, false, true, rule, table, src, line),
+        15 => answer_reading(input, true, true, rule, table, src, line),
+        16 => answer_length(input, rule, table, src, line),
+        _ => answer_writing_by(input, rule, table, src, out, line),
     }
 }
 
-fn answer_by(op: u8, table: &mut [u32], src: &mut [u8], out: &mut [u8], line: &mut [u8]) -> Found
+fn answer_by<R: Read>(
+    input: &mut R,
+    op: u8,
+    table: &mut [u32],
+    src: &mut [u8],
+    out: &mut [u8],
+    line: &mut [u8],
+) -> Found
     requires { Lent table.old × (length src.old ≡ 70000) × (length out.old ≡ 70000) × (length line.old ≡ 150000) }
     ensures { result.count ≤ 149999 }
 {
-    match take_rule() {
-        RuleTaken::None { is_failure } => none(is_failure),
-        RuleTaken::Rule(rule) => answer_under(op, rule, table, src, out, line),
+    match take_rule(input) {
+        RuleTaken::None { failure } => none(failure),
+        RuleTaken::Rule(rule) => answer_under(input, op, rule, table, src, out, line),
     }
 }
 
 // ---- all of them
 
-fn answer(op: u8, table: &mut [u32], src: &mut [u8], out: &mut [u8], line: &mut [u8]) -> Found
+fn answer<R: Read>(
+    input: &mut R,
+    op: u8,
+    table: &mut [u32],
+    src: &mut [u8],
+    out: &mut [u8],
+    line: &mut [u8],
+) -> Found
     requires { Lent table.old × (length src.old ≡ 70000) × (length out.old ≡ 70000) × (length line.old ≡ 150000) }
     ensures { result.count ≤ 149999 }
 {
     match op {
-        1 => answer_reading(false, false, TypeIdRule::Multiple, table, src, line),
-        2 => answer_reading(true, false, TypeIdRule::Multiple, table, src, line),
-        3 => answer_length(TypeIdRule::Multiple, table, src, line),
+        1 => answer_reading(input, false, false, TypeIdRule::Multiple, table, src, line),
+        2 => answer_reading(input, true, false, TypeIdRule::Multiple, table, src, line),
+        3 => answer_length(input, TypeIdRule::Multiple, table, src, line),
         4 => answer_writing(
+            input,
             TypeIdRule::Multiple,
             AddressWay::Constants,
             table,
@@ -538,16 +576,16 @@ fn answer(op: u8, table: &mut [u32], src: &mut [u8], out: &mut [u8], line: &mut 
             out,
             line,
         ),
-        5 => answer_kind(src, line),
-        6 => answer_tap(src, line),
-        7 => answer_name(src, line),
-        8 => answer_name_writing(src, out, line),
-        9 => answer_first(table, line),
-        10 => answer_address(line),
-        11 => answer_where(false, table, src, line),
-        12 => answer_where(true, table, src, line),
-        13 => answer_name_where(src, line),
-        14..=17 => answer_by(op, table, src, out, line),
+        5 => answer_kind(input, src, line),
+        6 => answer_tap(input, src, line),
+        7 => answer_name(input, src, line),
+        8 => answer_name_writing(input, src, out, line),
+        9 => answer_first(input, table, line),
+        10 => answer_address(input, line),
+        11 => answer_where(input, false, table, src, line),
+        12 => answer_where(input, true, table, src, line),
+        13 => answer_name_where(input, src, line),
+        14..=17 => answer_by(input, op, table, src, out, line),
         _ => bad(),
     }
 }
@@ -562,76 +600,90 @@ enum Turn {
 }
 
 // No request begins: the input ended, or a read failed.
-fn at_end(is_failure: bool) -> Turn {
-    if is_failure {
-        return Turn::Last(Outcome::NotRead);
+fn at_end(failure: Option<io::Error>) -> Turn {
+    if let Some(error) = failure {
+        return Turn::Last(Outcome::NotRead(error));
     }
     Turn::Last(Outcome::Done)
 }
 
 // A request has no answer: it is bad, which is said, or a read failed.
-fn no_answer(is_failure: bool) -> Turn {
-    if is_failure {
-        return Turn::Last(Outcome::NotRead);
+fn no_answer(to: &impl Print, failure: Option<io::Error>) -> Turn {
+    if let Some(error) = failure {
+        return Turn::Last(Outcome::NotRead(error));
     }
-    if io::write_all(STDOUT_FILENO, b"bad request\n") {
-        return Turn::Last(Outcome::Broken);
+    match to.write_all(b"bad request\n") {
+        Ok(()) => Turn::Last(Outcome::Broken),
+        Err(error) => Turn::Last(Outcome::NotWritten(error)),
     }
-    Turn::Last(Outcome::NotWritten)
 }
 
 // The line of n octets, and its end.
-fn end_line(line: &mut [u8], n: usize) -> Turn
+fn end_line(to: &impl Print, line: &mut [u8], n: usize) -> Turn
     requires { (length line.old ≡ 150000) × (n ≤ 149999) }
 {
     let end = put_octet(line, n, b'\n');
-    if io::write_all(STDOUT_FILENO, &line[..end]) {
-        return Turn::Next;
+    match to.write_all(&line[..end]) {
+        Ok(()) => Turn::Next,
+        Err(error) => Turn::Last(Outcome::NotWritten(error)),
     }
-    Turn::Last(Outcome::NotWritten)
 }
 
-fn serve(table: &mut [u32], src: &mut [u8], out: &mut [u8], line: &mut [u8]) -> Turn
+fn serve<R: Read>(
+    input: &mut R,
+    to: &impl Print,
+    table: &mut [u32],
+    src: &mut [u8],
+    out: &mut [u8],
+    line: &mut [u8],
+) -> Turn
     requires { Lent table.old × (length src.old ≡ 70000) × (length out.old ≡ 70000) × (length line.old ≡ 150000) }
 {
     let mut op = [0u8; 1];
-    let begun = take(&mut op);
+    let begun = take(input, &mut op);
     if begun.is_none {
-        return at_end(begun.is_failure);
+        return at_end(begun.failure);
     }
-    let answered = answer(op[0], table, src, out, line);
+    let answered = answer(input, op[0], table, src, out, line);
     if answered.is_none {
-        return no_answer(answered.is_failure);
+        return no_answer(to, answered.failure);
     }
-    end_line(line, answered.count)
+    end_line(to, line, answered.count)
 }
 
 // A proved loop has to end, and nothing says that the input does: it counts its turns down from a number that no run uses up.
-fn serve_all(table: &mut [u32], src: &mut [u8], out: &mut [u8], line: &mut [u8]) -> Outcome
+fn serve_all<R: Read>(
+    input: &mut R,
+    to: &impl Print,
+    table: &mut [u32],
+    src: &mut [u8],
+    out: &mut [u8],
+    line: &mut [u8],
+) -> Outcome
     requires { Lent table.old × (length src.old ≡ 70000) × (length out.old ≡ 70000) × (length line.old ≡ 150000) }
 {
     let mut turns = u64::MAX;
     while turns > 0 {
-        if let Turn::Last(outcome) = serve(table, src, out, line) {
+        if let Turn::Last(outcome) = serve(input, to, table, src, out, line) {
             return outcome;
         }
         turns -= 1;
     }
-    Outcome::NotRead
+    Outcome::NotRead(io::Error::from(ErrorKind::FileTooLarge))
 }
 
 // The run, apart from the input's name, so that no array stands beside it.
-fn run() -> Outcome {
+fn run<R: Read>(input: &mut R, to: &impl Print) -> Outcome {
     let mut table = [0u32; SIZE];
     let mut src = [0u8; 70000];
     let mut out = [0u8; 70000];
     let mut line = [0u8; 150000];
-    serve_all(&mut table, &mut src, &mut out, &mut line)
+    serve_all(input, to, &mut table, &mut src, &mut out, &mut line)
 }
 
-fn main() {
-    let mut name = io::buffer();
-    let n = os::arg(1, &mut name);
-    let outcome = run();
-    tell(outcome, &name[..n]);
+fn main(rt: HostRuntime) -> ExitCode {
+    let mut room = [0u8; 4096];
+    let name = input_name(&rt, &mut room);
+    let outcome = run(&mut rt.stdin(), &rt);
+    tell(&rt.stderr(), rt.alloc(), outcome, name)
 }

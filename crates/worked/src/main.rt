@@ -7,16 +7,19 @@
 ghost use Rattle.std.specs.Prelude.{◌+◌, ◌<◌, ◌≤◌, length};
 
 use ior::AddressOctets;
-use libc::STDOUT_FILENO;
 use octets::{put8, put16, put32};
 use reference::{
     AddressWay, Answer, ObjectKind, ObjectLocation, Profile, TAG_BIOP, TAG_CONN_BINDER,
     TAG_OBJECT_LOCATION, Tables, TaggedProfile, Tap, TapNumbers, TypeIdRule, View, no_tables,
 };
 
-fn say(n: u64) {
-    io::write_all(STDOUT_FILENO, b" ");
-    io::print_decimal(STDOUT_FILENO, n);
+// Nobody is told of what can't be written.
+fn put(to: &impl Print, text: &[u8]) {
+    let _ = to.write_all(text);
+}
+
+fn say(to: &impl Print, n: u64) {
+    let _ = print!(to; " {n}");
 }
 
 // An octet as a number.
@@ -24,20 +27,21 @@ fn wide(x: u8) -> u64 {
     x as u64
 }
 
-fn say_all(number: u64, place: u64, first: u64, second: u64, count: u64) {
-    say(number);
-    say(place);
-    say(first);
-    say(second);
-    say(count);
-    io::write_all(STDOUT_FILENO, b"\n");
+fn say_all(to: &impl Print, number: u64, place: u64, first: u64, second: u64, count: u64) {
+    say(to, number);
+    say(to, place);
+    say(to, first);
+    say(to, second);
+    say(to, count);
+    put(to, b"\n");
 }
 
-fn say_answer(name: &[u8], answer: Answer) {
-    io::write_all(STDOUT_FILENO, name);
+fn say_answer(to: &impl Print, name: &[u8], answer: Answer) {
+    put(to, name);
     match answer {
-        Answer::Count(n) => say_all(0, 0, 0, 0, n as u64),
+        Answer::Count(n) => say_all(to, 0, 0, 0, 0, n as u64),
         Answer::Refused(r) => say_all(
+            to,
             wide(r.number),
             wide(r.place),
             r.first as u64,
@@ -70,20 +74,20 @@ fn reads_piece(s: &[u8], j: usize, rule: TypeIdRule, whole: bool) -> u8
     number_of(answer)
 }
 
-fn say_cut(name: &[u8], how: &[u8], one: u64, two: u64, other: u64) {
-    io::write_all(STDOUT_FILENO, name);
-    io::write_all(STDOUT_FILENO, how);
-    io::write_all(STDOUT_FILENO, b" 1");
-    say(one);
-    io::write_all(STDOUT_FILENO, b" 2");
-    say(two);
-    io::write_all(STDOUT_FILENO, b" other");
-    say(other);
-    io::write_all(STDOUT_FILENO, b"\n");
+fn say_cut(to: &impl Print, name: &[u8], how: &[u8], one: u64, two: u64, other: u64) {
+    put(to, name);
+    put(to, how);
+    put(to, b" 1");
+    say(to, one);
+    put(to, b" 2");
+    say(to, two);
+    put(to, b" other");
+    say(to, other);
+    put(to, b"\n");
 }
 
 // Each shorter leading piece of the n octets at the start of s: how many are refused with 1, how many with 2, and how many otherwise or not at all.
-fn cuts(name: &[u8], how: &[u8], s: &[u8], n: usize, rule: TypeIdRule, whole: bool)
+fn cuts(to: &impl Print, name: &[u8], how: &[u8], s: &[u8], n: usize, rule: TypeIdRule, whole: bool)
     requires { n ≤ length s.now }
 {
     let mut one: u64 = 0;
@@ -101,23 +105,31 @@ fn cuts(name: &[u8], how: &[u8], s: &[u8], n: usize, rule: TypeIdRule, whole: bo
             other += 1;
         }
     }
-    say_cut(name, how, one, two, other);
+    say_cut(to, name, how, one, two, other);
 }
 
 // The reference at the start of s, if there is one under the rule, is cut at each octet.
-fn cuts_part(name: &[u8], leading: &[u8], whole: &[u8], s: &[u8], rule: TypeIdRule) {
+fn cuts_part(
+    to: &impl Print,
+    name: &[u8],
+    leading: &[u8],
+    whole: &[u8],
+    s: &[u8],
+    rule: TypeIdRule,
+) {
     let r = ior::read_leading_by(s, rule);
     let answer = r.answer;
     if let Answer::Count(n) = answer {
         if n <= s.len() {
-            cuts(name, leading, s, n, rule, false);
-            cuts(name, whole, s, n, rule, true);
+            cuts(to, name, leading, s, n, rule, false);
+            cuts(to, name, whole, s, n, rule, true);
         }
     }
 }
 
-fn cuts_reference(name: &[u8], s: &[u8]) {
+fn cuts_reference(to: &impl Print, name: &[u8], s: &[u8]) {
     cuts_part(
+        to,
         name,
         b", pieces by rule 1, leading:",
         b", pieces by rule 1, whole:",
@@ -125,6 +137,7 @@ fn cuts_reference(name: &[u8], s: &[u8]) {
         TypeIdRule::Multiple,
     );
     cuts_part(
+        to,
         name,
         b", pieces by rule 2, leading:",
         b", pieces by rule 2, whole:",
@@ -133,32 +146,32 @@ fn cuts_reference(name: &[u8], s: &[u8]) {
     );
 }
 
-fn reads(name: &[u8], s: &[u8]) {
+fn reads(to: &impl Print, name: &[u8], s: &[u8]) {
     let r = ior::read_leading(s);
     let answer = r.answer;
-    say_answer(name, answer);
-    cuts_reference(name, s);
+    say_answer(to, name, answer);
+    cuts_reference(to, name, s);
 }
 
-fn say_kind(type_id: &[u8]) {
+fn say_kind(to: &impl Print, type_id: &[u8]) {
     if let ObjectKind::ServiceGateway = ior::object_kind(type_id) {
-        io::write_all(STDOUT_FILENO, b"P7 srg\n");
+        put(to, b"P7 srg\n");
     }
 }
 
-fn say_tap(name: &[u8], use_: u16, selector: &[u8]) {
-    io::write_all(STDOUT_FILENO, name);
+fn say_tap(to: &impl Print, name: &[u8], use_: u16, selector: &[u8]) {
+    put(to, name);
     match ior::tap_numbers(use_, selector) {
         TapNumbers::Both {
             transaction,
             timeout,
         } => {
-            say(transaction as u64);
-            say(timeout as u64);
-            io::write_all(STDOUT_FILENO, b"\n");
+            say(to, transaction as u64);
+            say(to, timeout as u64);
+            put(to, b"\n");
         }
         TapNumbers::Neither => {
-            io::write_all(STDOUT_FILENO, b" neither\n");
+            put(to, b" neither\n");
         }
     }
 }
@@ -175,14 +188,14 @@ fn dvb_address() -> AddressOctets {
     a
 }
 
-fn say_counted(at: usize, yes: u64, no: u64) {
-    io::write_all(STDOUT_FILENO, b"address octet");
-    say(at as u64);
-    io::write_all(STDOUT_FILENO, b" yes");
-    say(yes);
-    io::write_all(STDOUT_FILENO, b" no");
-    say(no);
-    io::write_all(STDOUT_FILENO, b"\n");
+fn say_counted(to: &impl Print, at: usize, yes: u64, no: u64) {
+    put(to, b"address octet");
+    say(to, at as u64);
+    put(to, b" yes");
+    say(to, yes);
+    put(to, b" no");
+    say(to, no);
+    put(to, b"\n");
 }
 
 // Tables with one BIOP profile: a key and 36 taps, the last with a selector, or none.
@@ -226,16 +239,16 @@ fn one_profile(key: u32, taps: u32, selector: u32) -> Tables {
 }
 
 // Writes the tables, and says the octet that stands at `at` then: the length of a component, or A5 where nothing was written.
-fn writes(name: &[u8], t: Tables, at: usize) {
+fn writes(to: &impl Print, name: &[u8], t: Tables, at: usize) {
     let source = [0u8; 300];
     let mut out = [0xA5u8; 600];
-    say_answer(name, ior::write(t, &source, &mut out));
-    io::write_all(STDOUT_FILENO, name);
+    say_answer(to, name, ior::write(t, &source, &mut out));
+    put(to, name);
     if at < 600 {
-        say(wide(out[at]));
+        say(to, wide(out[at]));
     }
-    io::write_all(STDOUT_FILENO, b"\n");
-    cuts_reference(name, &out);
+    put(to, b"\n");
+    cuts_reference(to, name, &out);
 }
 
 // A BIOP profile at `at` with so many taps of zero octets: its headers, of which the other octets are zero.
@@ -258,125 +271,153 @@ fn put_binder(s: &mut [u8], at: usize, binder: u8, taps: u8)
 }
 
 // Two BIOP profiles with 19 and 18 taps.
-fn reads_two_binders() {
+fn reads_two_binders(to: &impl Print) {
     let mut s = [0u8; 327];
     s[7] = 2;
     put_location(&mut s, 8, 155);
     put_binder(&mut s, 8, 134, 19);
     put_location(&mut s, 171, 148);
     put_binder(&mut s, 171, 127, 18);
-    reads(b"two binders", &s);
+    reads(to, b"two binders", &s);
 }
 
 // Nine empty opaque profiles behind a count.
-fn reads_nine(name: &[u8], count: u8) {
+fn reads_nine(to: &impl Print, name: &[u8], count: u8) {
     let mut s = [0u8; 80];
     s[7] = count;
-    reads(name, &s);
+    reads(to, name, &s);
 }
 
-fn reads_worked() {
-    reads(b"P1", b"");
-    reads(b"P2", b"\x00\x00\x00\x00\x00\x00\x00\x00");
-    reads(b"P3", b"\x00\x00\x00\x03\x00\x00\x00\x00");
-    reads(b"P4", b"\x00\x00\x00\x04\x73\x72\x67\x00");
-    reads(b"P5", b"\x00\x00\x00\x08\x00\x00\x00\x00");
-    reads(b"P6", b"\x00\x00\x00\x00\x00\x00\x00\x01");
+fn reads_worked(to: &impl Print) {
+    reads(to, b"P1", b"");
+    reads(to, b"P2", b"\x00\x00\x00\x00\x00\x00\x00\x00");
+    reads(to, b"P3", b"\x00\x00\x00\x03\x00\x00\x00\x00");
+    reads(to, b"P4", b"\x00\x00\x00\x04\x73\x72\x67\x00");
+    reads(to, b"P5", b"\x00\x00\x00\x08\x00\x00\x00\x00");
+    reads(to, b"P6", b"\x00\x00\x00\x00\x00\x00\x00\x01");
     reads(
+        to,
         b"P7",
         b"\x00\x00\x00\x04\x73\x72\x67\x00\x00\x00\x00\x01\x49\x53\x4F\x06\x00\x00\x00\x16\x00\x02\x49\x53\x4F\x50\x09\x00\x00\x00\x01\x00\x02\x01\x00\x00\x49\x53\x4F\x40\x01\x00",
     );
-    say_kind(b"srg\x00");
+    say_kind(to, b"srg\x00");
     reads(
+        to,
         b"P8",
         b"\x00\x00\x00\x04\x73\x72\x67\x00\x00\x00\x00\x01\x49\x53\x4F\x06\x00\x00\x00\x16\x00\x01\x49\x53\x4F\x50\x09\x00\x00\x00\x01\x00\x02\x01\x00\x00\x49\x53\x4F\x40\x01\x00",
     );
     reads(
+        to,
         b"P8 order",
         b"\x00\x00\x00\x04\x73\x72\x67\x00\x00\x00\x00\x01\x49\x53\x4F\x06\x00\x00\x00\x16\x01\x01\x49\x53\x4F\x50\x09\x00\x00\x00\x01\x00\x02\x01\x00\x00\x49\x53\x4F\x40\x01\x00",
     );
     reads(
+        to,
         b"P9",
         b"\x00\x00\x00\x04\x73\x72\x67\x00\x00\x00\x00\x01\x49\x53\x4F\x06\x00\x00\x00\x16\x00\x02\x49\x53\x4F\x50\x08\x00\x00\x00\x01\x00\x02\x01\x00\x00\x49\x53\x4F\x40\x01\x00",
     );
     reads(
+        to,
         b"P10",
         b"\x00\x00\x00\x04\x73\x72\x67\x00\x00\x00\x00\x01\x49\x53\x4F\x06\x00\x00\x00\x17\x00\x02\x49\x53\x4F\x50\x09\x00\x00\x00\x01\x00\x02\x01\x00\x00\x49\x53\x4F\x40\x02\x00\x00",
     );
 }
 
-fn taps_worked() {
-    say_tap(b"P11", 0x0016, b"\x00\x01\x80\x00\x00\x02\xFF\xFF\xFF\xFF");
-    say_tap(b"P11 nine", 0x0016, b"\x00\x01\x80\x00\x00\x02\xFF\xFF\xFF");
+fn taps_worked(to: &impl Print) {
     say_tap(
+        to,
+        b"P11",
+        0x0016,
+        b"\x00\x01\x80\x00\x00\x02\xFF\xFF\xFF\xFF",
+    );
+    say_tap(
+        to,
+        b"P11 nine",
+        0x0016,
+        b"\x00\x01\x80\x00\x00\x02\xFF\xFF\xFF",
+    );
+    say_tap(
+        to,
         b"P11 use 0017",
         0x0017,
         b"\x00\x01\x80\x00\x00\x02\xFF\xFF\xFF\xFF",
     );
 }
 
-fn reads_run() {
+fn reads_run(to: &impl Print) {
     reads(
+        to,
         b"lite 39",
         b"\x00\x00\x00\x00\x00\x00\x00\x01\x49\x53\x4F\x05\x00\x00\x00\x27\x00\x01\x49\x53\x4F\x46\x00\x00\x00\x1D\x14\x00\x00\x00\x00\x00\x01\x01\x00\x01\x5A\x00\x01\x00\x02\x00\x03\xFF\xFF\xFF\xFF\x00\x00\x00\x00\x00\x00\x00\x00",
     );
     reads(
+        to,
         b"lite names",
         b"\x00\x00\x00\x00\x00\x00\x00\x01\x49\x53\x4F\x05\x00\x00\x00\x27\x00\x01\x49\x53\x4F\x46\x00\x00\x00\x1D\x14\x00\x00\x00\x00\x00\x01\x01\x00\x01\x5A\x00\x01\x00\x02\x00\x03\xFF\xFF\xFF\xFF\xFF\xFF\xFF\xFF\x00\x00\x00\x00",
     );
-    reads_two_binders();
-    reads_nine(b"nine opaque", 9);
-    reads_nine(b"nine of ten", 10);
+    reads_two_binders(to);
+    reads_nine(to, b"nine opaque", 9);
+    reads_nine(to, b"nine of ten", 10);
 }
 
 // A slice under rule 1, and then under rule 2.
-fn reads_by(name: &[u8], s: &[u8]) {
+fn reads_by(to: &impl Print, name: &[u8], s: &[u8]) {
     let multiple = ior::read_leading_by(s, TypeIdRule::Multiple);
     let first = multiple.answer;
-    say_answer(name, first);
+    say_answer(to, name, first);
     let gap = ior::read_leading_by(s, TypeIdRule::Gap);
     let second = gap.answer;
-    say_answer(name, second);
-    cuts_reference(name, s);
+    say_answer(to, name, second);
+    cuts_reference(to, name, s);
 }
 
 // A type id of five octets, and a gap of three that is right, wrong, left out or cut.
-fn reads_gaps() {
-    reads_by(b"gap", b"\x00\x00\x00\x05abcde\xFF\xFF\xFF\x00\x00\x00\x00");
+fn reads_gaps(to: &impl Print) {
     reads_by(
+        to,
+        b"gap",
+        b"\x00\x00\x00\x05abcde\xFF\xFF\xFF\x00\x00\x00\x00",
+    );
+    reads_by(
+        to,
         b"gap wrong",
         b"\x00\x00\x00\x05abcde\xFF\x00\xFF\x00\x00\x00\x00",
     );
-    reads_by(b"gap left out", b"\x00\x00\x00\x05abcde\x00\x00\x00\x00");
-    reads_by(b"gap cut", b"\x00\x00\x00\x05abcde\xFF\xFF");
-    reads_by(b"no gap", b"\x00\x00\x00\x04abcd\x00\x00\x00\x00");
+    reads_by(
+        to,
+        b"gap left out",
+        b"\x00\x00\x00\x05abcde\x00\x00\x00\x00",
+    );
+    reads_by(to, b"gap cut", b"\x00\x00\x00\x05abcde\xFF\xFF");
+    reads_by(to, b"no gap", b"\x00\x00\x00\x04abcd\x00\x00\x00\x00");
 }
 
 // Tables with a type id of so many octets and nothing else, measured and written under the rule.
-fn writes_by(name: &[u8], len: u32, rule: TypeIdRule) {
+fn writes_by(to: &impl Print, name: &[u8], len: u32, rule: TypeIdRule) {
     let source = [0u8; 65535];
     let mut out = [0xA5u8; 65535];
     let mut t = no_tables();
     let type_id = View { at: 0, len };
     t.type_id = type_id;
-    say_answer(name, ior::image_length_by(t, &source, rule));
+    say_answer(to, name, ior::image_length_by(t, &source, rule));
     say_answer(
+        to,
         name,
         ior::write_by(t, &source, &mut out, rule, AddressWay::Constants),
     );
-    cuts_reference(name, &out);
+    cuts_reference(to, name, &out);
 }
 
 // Without its gap of three, the image of a type id of 65,525 octets would fit.
-fn writes_gaps() {
-    writes_by(b"type id of 65525, rule 1", 65525, TypeIdRule::Multiple);
-    writes_by(b"type id of 65525, rule 2", 65525, TypeIdRule::Gap);
-    writes_by(b"type id of 65524, rule 2", 65524, TypeIdRule::Gap);
-    writes_by(b"type id of 65523, rule 2", 65523, TypeIdRule::Gap);
+fn writes_gaps(to: &impl Print) {
+    writes_by(to, b"type id of 65525, rule 1", 65525, TypeIdRule::Multiple);
+    writes_by(to, b"type id of 65525, rule 2", 65525, TypeIdRule::Gap);
+    writes_by(to, b"type id of 65524, rule 2", 65524, TypeIdRule::Gap);
+    writes_by(to, b"type id of 65523, rule 2", 65523, TypeIdRule::Gap);
 }
 
 // A DVB address with the octet at `at` changed to each of the 255 other values: how often it is one still, and how often it is none.
-fn asks_changed(at: usize)
+fn asks_changed(to: &impl Print, at: usize)
     requires { at < 20 }
 {
     let mut yes: u64 = 0;
@@ -392,25 +433,25 @@ fn asks_changed(at: usize)
             no += 1;
         }
     }
-    say_counted(at, yes, no);
+    say_counted(to, at, yes, no);
 }
 
-fn asks_addresses() {
+fn asks_addresses(to: &impl Print) {
     for at in 0..20 {
-        asks_changed(at);
+        asks_changed(to, at);
     }
 }
 
-fn main() {
-    reads_worked();
-    taps_worked();
-    reads_run();
-    writes(b"36 taps", one_profile(0, 36, 0), 36);
-    writes(b"selector of 2", one_profile(0, 36, 2), 36);
-    writes(b"selector of 3", one_profile(0, 36, 3), 36);
-    writes(b"key 246", one_profile(246, 0, 0), 22);
-    writes(b"key 247", one_profile(247, 0, 0), 22);
-    reads_gaps();
-    writes_gaps();
-    asks_addresses();
+fn main(rt: HostRuntime) {
+    reads_worked(&rt);
+    taps_worked(&rt);
+    reads_run(&rt);
+    writes(&rt, b"36 taps", one_profile(0, 36, 0), 36);
+    writes(&rt, b"selector of 2", one_profile(0, 36, 2), 36);
+    writes(&rt, b"selector of 3", one_profile(0, 36, 3), 36);
+    writes(&rt, b"key 246", one_profile(246, 0, 0), 22);
+    writes(&rt, b"key 247", one_profile(247, 0, 0), 22);
+    reads_gaps(&rt);
+    writes_gaps(&rt);
+    asks_addresses(&rt);
 }
