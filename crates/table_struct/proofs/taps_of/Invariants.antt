@@ -1,0 +1,11 @@
+use Prim.Native.Nat.{◌-◌}
+use Rattle.table.specs.Flat.{tables_from, tap_region}
+use Rattle.table.proofs.Replaced.{Replaced}
+use Rattle.table_struct.proofs.taps_of.Given as goal
+
+-- `table_struct::taps_of` meets its contract. Entry by entry. Assumes nothing.
+abbrev pub invariant-loop-i : goal.invariant-loop-i
+invariant-loop-i l = Replaced tap_region.size (tables_from l.s).taps l.initial.all l.all l.i
+
+abbrev pub decreases-loop-i : goal.decreases-loop-i
+decreases-loop-i l = tap_region.size - l.i
