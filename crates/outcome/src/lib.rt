@@ -2,11 +2,20 @@
 // run: 0 all is well, 1 the input is broken, 2 the input can't be read or the output can't be written. One without an argument ends with 0.
 #![tactic(auto)]
 
+ghost use Rattle.std.specs.Prelude.{◌≡◌, Ok, is_some, cond, MatchResult};
+ghost use Rattle.std.specs.Process.{exit_status};
+ghost use Rattle.outcome.specs.Status.{status_of};
+ghost use Rattle.outcome.specs.declared.Outcome.TheVariants.{Done, NotWritten};
+
 use std::alloc::Global;
 use std::env::FillError;
 use std::io;
+use std::io::ErrorKind;
 use std::process::ExitCode;
 use std::rt::Env;
+
+// The status where nobody reads the output any more: that of a program which the signal of a broken pipe ended.
+const UNREAD: u8 = 141;
 
 #[derive(Drop)]
 pub enum Outcome {
@@ -25,7 +34,9 @@ pub fn input_name<'a>(rt: &impl Env, room: &'a mut [u8; 4096]) -> Option<&'a [u8
     }
 }
 
-fn tell_status(status: u8, is_named: bool) -> ExitCode {
+fn tell_status(status: u8, is_named: bool) -> ExitCode
+    ensures { exit_status result ≡ cond is_named status 0 }
+{
     if is_named {
         return ExitCode::from(status);
     }
@@ -60,8 +71,21 @@ fn say_not_read(err: &impl Print, alloc: Global, name: Option<&[u8]>, error: io:
     }
 }
 
+// The status of an output that can't be written, and on `err` why, if anybody reads it.
+fn tell_not_written(err: &impl Print, alloc: Global, error: io::Error, is_named: bool) -> ExitCode
+    ensures { exit_status result ≡ status_of is_named (NotWritten error) }
+{
+    if let ErrorKind::BrokenPipe = error.kind() {
+        return ExitCode::from(UNREAD);
+    }
+    fail(err, alloc, b"standard output", error);
+    tell_status(2, is_named)
+}
+
 // Tells the outcome of a run on the input of that name: on `err` what failed, and the status that the program is to end with.
-pub fn tell(err: &impl Print, alloc: Global, outcome: Outcome, name: Option<&[u8]>) -> ExitCode {
+pub fn tell(err: &impl Print, alloc: Global, outcome: Outcome, name: Option<&[u8]>) -> ExitCode
+    ensures { exit_status result ≡ status_of (is_some name.entry) outcome }
+{
     let is_named = name.is_some();
     match outcome {
         Outcome::Done => tell_status(0, is_named),
@@ -70,10 +94,7 @@ pub fn tell(err: &impl Print, alloc: Global, outcome: Outcome, name: Option<&[u8
             say_not_read(err, alloc, name, error);
             tell_status(2, is_named)
         }
-        Outcome::NotWritten(error) => {
-            fail(err, alloc, b"standard output", error);
-            tell_status(2, is_named)
-        }
+        Outcome::NotWritten(error) => tell_not_written(err, alloc, error, is_named),
     }
 }
 
@@ -83,7 +104,9 @@ pub fn tell_written(
     alloc: Global,
     written: io::Result<()>,
     name: Option<&[u8]>,
-) -> ExitCode {
+) -> ExitCode
+    ensures { MatchResult written (λ _. exit_status result ≡ status_of (is_some name.entry) Done) (λ e. exit_status result ≡ status_of (is_some name.entry) (NotWritten e)) }
+{
     match written {
         Ok(()) => tell(err, alloc, Outcome::Done, name),
         Err(error) => tell(err, alloc, Outcome::NotWritten(error), name),

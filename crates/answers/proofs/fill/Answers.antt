@@ -1,4 +1,5 @@
-use Rattle.std.proofs.Common.{arith, length-replicate, refl}
+use Rattle.std.proofs.Common.{arith, refl}
+use Rattle.std.proofs.lemmas.List.{length-replicate}
 use Rattle.table.proofs.Replaced.{begin, finish}
 use Rattle.answers.proofs.Stored.{filled_more}
 use Rattle.answers.proofs.fill.Goals as goal
