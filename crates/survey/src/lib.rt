@@ -48,7 +48,7 @@ pub const VIEW_WIDTH: usize = 2;
 pub const EXTRA_VIEWS_AT: usize = EXTRAS_AT + DATA_AT;
 
 // How many taps, names and extras the profiles count, the octets, and the marks of fields and of ends.
-#[derive(Drop)]
+#[derive(Clone, Copy)]
 pub struct Survey {
     pub taps: usize,
     pub names: usize,
