@@ -1,5 +1,5 @@
 # kit.sh: what the commands of this repository share. It is read by them, not run; a command has set `self` to its own path.
-# It gives `root`, the repository; find_kit gives `kit`, `machine` and `tools`, the Rattle kit and what it has for this machine.
+# It gives `root`, the repository; find_kit gives `kit` and `tools`, the Rattle kit and its compilers.
 # shellcheck shell=sh disable=SC2034,SC2154
 root=${self%/*/*}
 command=${self##*/}
@@ -25,24 +25,21 @@ options() {
     esac
 }
 
-# The kit is what RATTLE_HOME names, as for rt itself; else it stands above the command rt; where rt only calls it, rt says where its guide is.
+# The kit stands above the command rt; where rt only calls it, rt says where its first page is.
 find_kit() {
     rt=$(command -v rt) || fail "the Rattle kit's command rt is not on the PATH"
-    kit=${RATTLE_HOME:-$(dirname "$(readlink -f "$rt")")/..}
-    if [ -z "${RATTLE_HOME-}" ] && [ ! -d "$kit/on" ]; then
-        guide=$(rt doc </dev/null) || fail "$rt doesn't say where the Rattle kit stands; RATTLE_HOME may name it"
-        kit=${guide%/*}/..
+    kit=$(dirname "$(readlink -f "$rt")")/..
+    if [ ! -d "$kit/toolchain" ]; then
+        page=$(rt doc </dev/null) || fail "$rt doesn't say where the Rattle kit stands"
+        kit=${page%/*}
     fi
-    machine=$(uname -m)
-    tools=$kit/on/$machine/toolchain
-    [ -d "$tools" ] || fail "the Rattle kit at $kit has nothing for this machine, $machine"
-    kit=$(cd "$kit" && pwd -P) || exit 2
-    tools=$kit/on/$machine/toolchain
+    tools=$kit/toolchain
+    [ -d "$tools" ] || fail "the Rattle kit at $kit has no toolchain"
 }
 
 # The crates that crates.txt lists and that have the file src/$1: main.rt for programs, lib.rt for libraries.
 crates_with() {
-    sed -n 's/^[[:blank:]]*\([A-Za-z_][A-Za-z0-9_]*\)[[:blank:]]*:.*/\1/p' "$root/crates.txt" | while read -r crate; do
+    sed -n 's/^[[:blank:]]*\([A-Za-z_][A-Za-z0-9_]*\)[^:#]*:.*/\1/p' "$root/crates.txt" | while read -r crate; do
         [ ! -f "$root/crates/$crate/src/$1" ] || echo "$crate"
     done
 }
@@ -58,7 +55,7 @@ made_of() {
     WANTED=$1 awk '
         function visit(n,    a, k) { if ((n in deps) && !seen[n]++) { print n; for (k = split(deps[n], a, " "); k > 0; k--) visit(a[k]) } }
         { sub(/#.*/, "") }
-        i = index($0, ":") { n = substr($0, 1, i - 1); gsub(/[ \t]/, "", n); deps[n] = substr($0, i + 1) }
+        i = index($0, ":") { split(substr($0, 1, i - 1), head); deps[head[1]] = substr($0, i + 1) }
         END { visit(ENVIRON["WANTED"]) }' "$root/crates.txt"
 }
 
