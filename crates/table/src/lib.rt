@@ -111,7 +111,7 @@ pub const DATA_AT: usize = 1;
 pub const DATA_LEN: usize = 2;
 
 // How many entries of each table are used so far; an entry past a table's end is counted and not stored.
-#[derive(Drop)]
+#[derive(Clone, Copy)]
 pub struct Counts {
     pub taps: usize,
     pub names: usize,
