@@ -33,6 +33,7 @@ find_kit() {
         page=$(rt doc </dev/null) || fail "$rt doesn't say where the Rattle kit stands"
         kit=${page%/*}
     fi
+    kit=$(cd "$kit" && pwd -P) || exit 2
     tools=$kit/toolchain
     [ -d "$tools" ] || fail "the Rattle kit at $kit has no toolchain"
 }
