@@ -132,9 +132,9 @@ fn check_lengths(id: usize, kind: usize) -> Check
 
 // Puts a view's length in one octet and its octets behind it, and answers the position after them.
 fn write_run(v: View, src: &[u8], out: &mut [u8], at: usize) -> usize
-    requires len_in_bounds { v.at + v.len ≤ length src.now }
-    requires len_bound { v.len ≤ 255 }
-    requires len_in_bounds_2 { at + (1 + v.len) ≤ length out.old }
+    requires inside { v.at + v.len ≤ length src.now }
+    requires short { v.len ≤ 255 }
+    requires room { at + (1 + v.len) ≤ length out.old }
     ensures { Put out.old at (1 + v.len) (octets 1 v.len ++ shown src.now v) out.new result }
 {
     let next = put8(out, at, v.len as u8);

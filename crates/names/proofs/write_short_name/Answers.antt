@@ -10,13 +10,13 @@ use Rattle.names.proofs.write_short_name.Goals as goal
 pub write_run-next-requires : goal.write_run-next-requires
 write_run-next-requires c =
     let p = passing _ _ _ (sym c.in-Pass.ensures) in
-    record { len_in_bounds = test_le _ _ _ p.id; len_bound = p.id_short; len_in_bounds_2 = omega (arith, p.room) }
+    record { inside = test_le _ _ _ p.id; short = p.id_short; room = omega (arith, p.room) }
 
 pub write_run-end-requires : goal.write_run-end-requires
 write_run-end-requires c =
     let p = passing _ _ _ (sym c.in-Pass.ensures) in
     let w = c.write_run-next.ensures in
-    record { len_in_bounds = test_le _ _ _ p.kind; len_bound = p.kind_short; len_in_bounds_2 = omega (arith, p.room, w, kept w) }
+    record { inside = test_le _ _ _ p.kind; short = p.kind_short; room = omega (arith, p.room, w, kept w) }
 
 pub returns-in-Refuse : goal.returns-in-Refuse
 returns-in-Refuse c = refused_writes _ _ _ (sym c.in-Refuse.ensures)
