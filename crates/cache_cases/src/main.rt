@@ -3,8 +3,8 @@
 
 use listing::list;
 use outcome::{Outcome, fail};
-use std::rt::Files;
 use std::fs;
+use std::rt::Files;
 
 fn say(out: &impl Print, text: &str) {
     let _ = out.write_all(text.as_bytes());
