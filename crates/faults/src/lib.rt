@@ -224,7 +224,7 @@ pub fn length_from(t: &[u32], src: &[u8], rule: TypeIdRule) -> Answer
 
 // What one survey says of a lent table over a source: it is sound, that is exact and nothing that measuring refuses, and its image so long; or what was seen.
 // It is rule 1's word: what another rule adds is the gap.
-#[derive(Drop)]
+#[derive(Clone, Copy)]
 pub enum Judged {
     Sound(usize),
     Unsound(Survey),

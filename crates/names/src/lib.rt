@@ -22,7 +22,7 @@ use reference::{
 };
 
 // The views of a name's id and kind and the position behind it, or the refusal.
-#[derive(Drop)]
+#[derive(Clone, Copy)]
 pub enum ShortNameRead {
     Got { name: NameComponent, next: usize },
     Not { why: Refusal },

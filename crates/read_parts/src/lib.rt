@@ -15,26 +15,26 @@ use reference::{EXTRAS, LiteComponent, Refusal, cut, left_over, too_long, view_o
 use table::{Counts, put_extra};
 
 // Where a run of entries ended, or the refusal.
-#[derive(Drop)]
+#[derive(Clone, Copy)]
 pub enum Ended {
     At(usize),
     Not(Refusal),
 }
 
 // A profile's body: it is stored, and these are the counts after it; or the refusal.
-#[derive(Drop)]
+#[derive(Clone, Copy)]
 pub enum BodyRead {
     Got { used: Counts },
     Not { why: Refusal },
 }
 
-#[derive(Drop)]
+#[derive(Clone, Copy)]
 pub enum FixedRead {
     Got { count: usize },
     Not { why: Refusal },
 }
 
-#[derive(Drop)]
+#[derive(Clone, Copy)]
 pub enum ExtraRead {
     Got { extra: LiteComponent, next: usize },
     Not { why: Refusal },

@@ -11,7 +11,7 @@ const MARK: u16 = 0x4F52;
 
 // What stands at a place of a cache: a record, whose reference begins at `start` and ends before `stop`, where the next record begins;
 // a wrong mark or a cut record; or nothing, at the end.
-#[derive(Drop)]
+#[derive(Clone, Copy)]
 pub enum Record {
     Got { start: usize, stop: usize },
     Broken,

@@ -107,7 +107,7 @@ pub struct Profile {
     pub body: TaggedProfile,
 }
 
-#[derive(Drop)]
+#[derive(Clone, Copy)]
 pub struct Tables {
     pub type_id: View,
     pub profiles_used: u32,
@@ -132,20 +132,20 @@ pub struct Refusal {
 }
 
 // Octets consumed or written, or the refusal.
-#[derive(Drop)]
+#[derive(Clone, Copy)]
 pub enum Answer {
     Count(usize),
     Refused(Refusal),
 }
 
-#[derive(Drop)]
+#[derive(Clone, Copy)]
 pub struct Reading {
     pub answer: Answer,
     pub tables: Tables,
 }
 
 // What a check finds.
-#[derive(Drop)]
+#[derive(Clone, Copy)]
 pub enum Check {
     Pass,
     Refuse(Refusal),
@@ -163,14 +163,14 @@ pub enum ObjectKind {
 }
 
 // A tap's transaction id and timeout, which it has together or not at all.
-#[derive(Drop)]
+#[derive(Clone, Copy)]
 pub enum TapNumbers {
     Both { transaction: u32, timeout: u32 },
     Neither,
 }
 
 // The index of the first BIOP profile.
-#[derive(Drop)]
+#[derive(Clone, Copy)]
 pub enum FirstBiop {
     At(usize),
     Nothing,

@@ -98,7 +98,7 @@ fn put_row(
 
 // How far the rows of a block go: the records before `next` are listed, `seen` in all, in the first `used` octets of a page. The page is full, or
 // no whole record stands at `next`.
-#[derive(Drop)]
+#[derive(Clone, Copy)]
 pub struct Rows {
     pub next: usize,
     pub seen: u64,
