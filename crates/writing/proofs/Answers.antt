@@ -1,10 +1,9 @@
 -- Writing's answer and what it leaves, by what its checks find in their order. Assumes nothing.
 use Prim.Native.Nat.{ℕ, ◌<◌, ◌≤◌}
 use mathlib.Core.Path.{◌≡◌, sym, ap, ◌∙◌}
-use mathlib.Core.Bool.{Bool, true, false, not}
+use mathlib.Core.Bool.{Bool, true, false}
 use mathlib.Core.List.{List}
 use native.Mathlib.Nat.{zero-add}
-use borrow.Author.Tests.{not-true, not-false}
 use lib.ListN.{length}
 use Rattle.reference.specs.declared.TypeIdRule.{TypeIdRule}
 use Rattle.reference.specs.declared.AddressWay.{AddressWay}
@@ -58,15 +57,15 @@ module _ (rule : TypeIdRule) where
       told_by a k = ap (λ (w : View). allowed rule w.len) (sym e) ∙ sym a ∙ k
 
       module _ {b : Bool} (a : b ≡ allowed rule v.len) where
-        pub type_refuses : not b ≡ true → output_check t m ≡ Refuse (refusal 4 33 0 0)
+        pub type_refuses : b ≡ false → output_check t m ≡ Refuse (refusal 4 33 0 0)
         unfolding test
         type_refuses k =
-            go _ _ (le_test (size_of rule (used_of t)) m _ h) ∙ stop _ _ _ (ap (λ (x : Bool). test x (refusal 4 33 0 0)) (told_by a (not-true b k)))
+            go _ _ (le_test (size_of rule (used_of t)) m _ h) ∙ stop _ _ _ (ap (λ (x : Bool). test x (refusal 4 33 0 0)) (told_by a k))
 
-        pub sizes_decide : not b ≡ false → output_check t m ≡ each own_short (owned_of (used_of t))
+        pub sizes_decide : b ≡ true → output_check t m ≡ each own_short (owned_of (used_of t))
         unfolding test
         sizes_decide k =
-            go _ _ (le_test (size_of rule (used_of t)) m _ h) ∙ go _ _ (ap (λ (x : Bool). test x (refusal 4 33 0 0)) (told_by a (not-false b k)))
+            go _ _ (le_test (size_of rule (used_of t)) m _ h) ∙ go _ _ (ap (λ (x : Bool). test x (refusal 4 33 0 0)) (told_by a k))
 
 module _ (rule : TypeIdRule) (way : AddressWay) where
   module _ (t : Tables) (s d : List ℕ) where
