@@ -2,12 +2,12 @@
 -- are what the code knows there, so that a proof only names the law. Assumes nothing.
 use Prim.Native.Nat.{ℕ, ◌+◌, ◌-◌, ◌<◌, ◌≤◌}
 use mathlib.Core.Path.{◌≡◌, refl, sym, ap, ◌∙◌, subst}
-use mathlib.Core.Bool.{Bool, true, false, not}
+use mathlib.Core.Bool.{Bool, true, false}
 use mathlib.Core.Logic.{◌≢◌}
 use mathlib.Core.List.{List}
 use native.Mathlib.Nat.{add_assoc}
 use native.Mathlib.Omega.{arith}
-use borrow.Author.Tests.{lt-ltb, le-ltb, eq-eqb, ne_eqb, not-true, not-false}
+use borrow.Author.Tests.{lt-ltb, le-ltb, eq-eqb, ne_eqb}
 use lib.Dec.{eqb}
 use mir.Syntax.{w8}
 use mir.Val.{Fits}
@@ -23,7 +23,7 @@ use Rattle.reference.specs.declared.Refusal.{Refusal}
 use Rattle.reference.specs.declared.View.{View}
 use Rattle.reference.specs.declared.Check.{Check}
 use Rattle.reference.specs.declared.Check.TheVariants.{Pass, Refuse}
-use Rattle.reference.specs.Layout.{allowed, gap_length, gap}
+use Rattle.reference.specs.Layout.{allowed, gap_length}
 use Rattle.reference.specs.Places.{place_profile_header, place_reference_fixed, place_type_id_length, place_profile_count, place_gap_value, place_gap}
 use Rattle.reference.specs.Refusals.{refusal, cut_at, long_at, wrong_at}
 use Rattle.reference.specs.Steps.{Answer, ok, refused, need, number, checked, run, fits, after, done}
@@ -65,13 +65,13 @@ module _ (rule : TypeIdRule) (d : List ℕ) where
     head_cut e h = simp (e, le-ltb, lt-ltb)
 
     module _ {n : ℕ} (size : n ≡ be (part d 0 4)) (room : 8 ≤ length d) where
-      pub head_odd : {x : Refusal} {b : Bool} → b ≡ allowed rule n → x ≡ wrong_at 4 place_type_id_length 0 → not b ≡ true → No x
+      pub head_odd : {x : Refusal} {b : Bool} → b ≡ allowed rule n → x ≡ wrong_at 4 place_type_id_length 0 → b ≡ false → No x
       unfolding read_head need checked
-      head_odd {x} {b} a e h = let q = sym a ∙ not-true b h in simp (e, ← size, le-ltb, q)
+      head_odd {x} {b} a e h = let q = sym a ∙ h in simp (e, ← size, le-ltb, q)
 
-      module _ {b : Bool} (a : b ≡ allowed rule n) (even : not b ≡ false) where
+      module _ {b : Bool} (a : b ≡ allowed rule n) (even : b ≡ true) where
         right : allowed rule n ≡ true
-        right = sym a ∙ not-false b even
+        right = sym a ∙ even
 
         pub head_over : {x : Refusal} → x ≡ long_at 4 n (length d) → length d - 4 < n → No x
         unfolding read_head need checked number run
@@ -88,10 +88,10 @@ module _ (rule : TypeIdRule) (n : ℕ) (d : List ℕ) (at : ℕ) {k : ℕ} (few 
   gap_cut e h = simp (e, ← few, lt-ltb)
 
   module _ (room : at + k ≤ length d) (b : Bool) (a : IsBlank d at k b) where
-    pub gap_wrong : {x : Refusal} → ((i : ℕ) → Fits w8 (get_or d i 0)) → x ≡ wrong_at 3 place_gap_value at → not b ≡ true → GapIn rule n d at (Refuse x)
+    pub gap_wrong : {x : Refusal} → ((i : ℕ) → Fits w8 (get_or d i 0)) → x ≡ wrong_at 3 place_gap_value at → b ≡ false → GapIn rule n d at (Refuse x)
     unfolding read_gap need checked
     gap_wrong o e h =
-        let no : part d at k ≢ blank k = subst (IsBlank d at k) (not-true b h) a in
+        let no : part d at k ≢ blank k = subst (IsBlank d at k) h a in
         let oct = octets_of_slice d (λ i. (o i).fits) in
         let q : eqb (be (part d at k)) (be (blank k)) ≡ false = ne_eqb (be (part d at k)) (be (blank k)) (λ p. no (be_blank oct p)) in
         simp (e, ← few, le-ltb, q)
@@ -101,10 +101,10 @@ module _ (rule : TypeIdRule) (n : ℕ) (d : List ℕ) (at : ℕ) {k : ℕ} (few 
         be_blank o p =
             sym (octets_be (part d at k) (octets_part d at k o)) ∙ (λ j. octets ((length_part d at k room ∙ sym (length_blank k)) j) (p j)) ∙ octets_be (blank k) (blank_octets k)
 
-    pub gap_right : not b ≡ false → GapIn rule n d at Pass
+    pub gap_right : b ≡ true → GapIn rule n d at Pass
     unfolding read_gap need checked number done
     gap_right h =
-        let yes : part d at k ≡ blank k = subst (IsBlank d at k) (not-false b h) a in
+        let yes : part d at k ≡ blank k = subst (IsBlank d at k) h a in
         let q : eqb (be (blank k)) (be (blank k)) ≡ true = eq-eqb (be (blank k)) (be (blank k)) refl in
         (simp (← few, yes, le-ltb, q), omega arith)
 
