@@ -145,6 +145,7 @@ fn write_image(t: &[u32], src: &[u8], out: &mut [u8], rule: TypeIdRule) -> usize
 }
 
 // 5, 4 and 2, in this order, for an image of `total` octets and an output of `room`.
+#[tactic(auto, using(crate::proofs::Answers::no_room_refuses, crate::proofs::Answers::type_refuses, crate::proofs::Answers::sizes_decide, crate::proofs::Checked::small_short, table::proofs::Entries::type_id_entry))]
 fn check_output(t: &[u32], total: usize, room: usize, rule: TypeIdRule) -> Check
     requires { Lent t.now × (counts_check (tables_from t.now) ≡ Pass) × (total ≡ size_of rule (used_of (tables_from t.now))) }
     ensures { result ≡ both (room_check (size_of rule (used_of (tables_from t.now))) room) (both (type_check rule (tables_from t.now).type_id) (each own_short (owned_of (used_of (tables_from t.now))))) }
