@@ -12,7 +12,6 @@ use lib.Dec.{eqb}
 use lib.ListN.{length, drop, get_or}
 use lib.Seq.{take_all, drop-length}
 use Rattle.octets.specs.Octets.{part, be, splice}
-use Rattle.reference.specs.declared.TaggedProfile.TheVariants as Sort
 use Rattle.reference.specs.declared.Profile.{Profile as Entry}
 use Rattle.reference.specs.Steps.{pick}
 use Rattle.reference.specs.Refusals.{refusal}
