@@ -180,6 +180,7 @@ fn check_room(profiles: usize, taps: usize, names: usize, extras: usize) -> Chec
 }
 
 // Behind the profiles: of the whole slice nothing may be left over; 7 comes after that.
+#[tactic(auto, unfolding(crate::specs::Open::ends))]
 fn check_end(
     whole: bool,
     next: usize,

@@ -1,5 +1,5 @@
 use native.Mathlib.Omega.{arith}
-use Rattle.reading.proofs.References.{end_fits}
+use Rattle.reading.proofs.References.{end_fits, end_refused, end_passed}
 use Rattle.reading.proofs.finish.Goals as goal
 
 pub overflow_cast-count : goal.overflow_cast-count
@@ -13,3 +13,9 @@ overflow_cast-names c = omega (arith, end_fits _ _ _ _ _ _ _ _ c.check_end.ensur
 
 pub overflow_cast-extras : goal.overflow_cast-extras
 overflow_cast-extras c = omega (arith, end_fits _ _ _ _ _ _ _ _ c.check_end.ensures c.in-Pass.is)
+
+pub returns-in-Refuse : goal.returns-in-Refuse
+returns-in-Refuse c = search end_refused
+
+pub returns-in-Pass : goal.returns-in-Pass
+returns-in-Pass c = search end_passed
