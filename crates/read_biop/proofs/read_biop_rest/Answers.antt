@@ -14,6 +14,4 @@ returns-in-Not-read_extras c = search no_extras_lem
 
 pub returns-after-i-lt-PROFILES : goal.returns-after-i-lt-PROFILES
 returns-after-i-lt-PROFILES c =
-    let o = c.shared_slice_known-1.given in
-    let p = c.requires in
     elim c.if-i-lt-PROFILES.branch [ then-i-lt-PROFILES w ↦ search filed_in | else-i-lt-PROFILES w ↦ search filed_out ]

@@ -20,8 +20,4 @@ returns-in-Not-read_extras c = λ a s. search no_extras_lem
 
 pub returns-after-i-lt-PROFILES : goal.returns-after-i-lt-PROFILES
 returns-after-i-lt-PROFILES c =
-    let names = c.read_names.ensures in
-    let context = c.read_context.ensures in
-    let octs = c.shared_slice_known-1.given in
-    let pre = c.requires in
     λ a s. elim c.if-i-lt-PROFILES.branch [ then-i-lt-PROFILES w ↦ search filed_in | else-i-lt-PROFILES w ↦ search filed_out ]
