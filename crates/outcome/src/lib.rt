@@ -1,5 +1,6 @@
 // How a run ended, told to whoever started the program. A program that was started with an argument, which names its input, ends with the status of its
-// run: 0 all is well, 1 the input is broken, 2 the input can't be read or the output can't be written. One without an argument ends with 0.
+// run: 0 all is well, 1 the input is broken, 2 the input can't be read or the output can't be written. One without an argument ends with 0. Either ends
+// with 141 where nobody reads the output any more.
 #![tactic(auto)]
 
 ghost use Rattle.std.specs.Prelude.{◌≡◌, Ok, is_some, cond, MatchResult};
