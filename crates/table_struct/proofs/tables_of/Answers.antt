@@ -4,17 +4,12 @@ use Rattle.table_struct.proofs.tables_of.Goals as goal
 pub returns : goal.returns
 unfolding tables_from
 returns c =
-    let e = c in
-    let n = e in
-    let t = n in
-    let p = t in
-    let v = p in
-    let s = v.args.s.now in
-    let type-id = v.view_at-type_id.ensures in
-    let profiles = p.profiles_of-profiles.ensures in
-    let taps = t.taps_of-taps.ensures in
-    let names = n.names_of-names.ensures in
-    let extras = e.extras_of-extras.ensures in
+    let s = c.args.s.now in
+    let type-id = c.view_at-type_id.ensures in
+    let profiles = c.profiles_of-profiles.ensures in
+    let taps = c.taps_of-taps.ensures in
+    let names = c.names_of-names.ensures in
+    let extras = c.extras_of-extras.ensures in
     λ j.
     record {
       type_id = type-id j;

@@ -8,6 +8,4 @@ use Rattle.text.proofs.put_hex.Goals as goal
 pub returns : goal.returns
 unfolding hex
 returns c =
-    let l = c in
-    let h = l in
-    same (then h.put_octet-low.ensures l.put_octet.ensures) refl (ap₂ (λ (x y : ℕ). x ∷ y ∷ []) h.digit.ensures l.digit-2.ensures) refl
+    same (then c.put_octet-low.ensures c.put_octet.ensures) refl (ap₂ (λ (x y : ℕ). x ∷ y ∷ []) c.digit.ensures c.digit-2.ensures) refl
