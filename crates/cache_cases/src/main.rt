@@ -2,44 +2,50 @@
 #![tactic(auto)]
 
 use listing::list;
-use outcome::{Outcome, fail};
+use outcome::{Failure, Outcome, fail};
 use std::fs;
 use std::rt::Files;
 
-fn say(out: &impl Print, text: &str) {
-    let _ = out.write_all(text.as_bytes());
-}
+// Each case, in the order in which it is listed.
+const CASES: [&str; 12] = [
+    "empty",
+    "wrong_first_mark",
+    "wrong_later_mark",
+    "cut_in_mark",
+    "cut_in_length",
+    "cut_in_octets",
+    "no_octets",
+    "five_kinds",
+    "unknown_kinds",
+    "eight_and_nine_profiles",
+    "longest",
+    ".",
+];
 
-fn say_outcome(out: &impl Print, outcome: Outcome) {
+fn words_of(outcome: Outcome) -> &'static str {
     match outcome {
-        Outcome::Done => say(out, "done\n"),
-        Outcome::Broken => say(out, "broken\n"),
-        Outcome::NotRead(_) => say(out, "not read\n"),
-        Outcome::NotWritten(_) => say(out, "not written\n"),
+        Ok(()) => "done",
+        Err(Failure::Broken) => "broken",
+        Err(Failure::NotRead(_)) => "not read",
+        Err(Failure::NotWritten(_)) => "not written",
     }
 }
 
+// Nobody is told of what can't be written.
 fn list_file(rt: &(impl Files + Print + AllocGlobal), err: &impl Print, name: &str) {
-    say(rt, name);
-    say(rt, "\n");
+    let _ = println!(rt; "{name}");
     match fs::open(rt, name) {
-        Ok(mut file) => say_outcome(rt, list(&mut file, rt, false)),
+        Ok(mut file) => {
+            let words = words_of(list(&mut file, rt, false));
+            let _ = println!(rt; "{words}");
+        }
         Err(error) => fail(err, rt.alloc(), name.as_bytes(), error),
     }
 }
 
 fn main(rt: HostRuntime) {
     let err = rt.stderr();
-    list_file(&rt, &err, "empty");
-    list_file(&rt, &err, "wrong_first_mark");
-    list_file(&rt, &err, "wrong_later_mark");
-    list_file(&rt, &err, "cut_in_mark");
-    list_file(&rt, &err, "cut_in_length");
-    list_file(&rt, &err, "cut_in_octets");
-    list_file(&rt, &err, "no_octets");
-    list_file(&rt, &err, "five_kinds");
-    list_file(&rt, &err, "unknown_kinds");
-    list_file(&rt, &err, "eight_and_nine_profiles");
-    list_file(&rt, &err, "longest");
-    list_file(&rt, &err, ".");
+    for name in CASES {
+        list_file(&rt, &err, name);
+    }
 }

@@ -2,12 +2,9 @@
 #![tactic(auto)]
 
 use listing::list;
-use outcome::{input_name, tell};
+use outcome::run_named;
 use std::process::ExitCode;
 
 fn main(rt: HostRuntime) -> ExitCode {
-    let mut room = [0u8; 4096];
-    let name = input_name(&rt, &mut room);
-    let outcome = list(&mut rt.stdin(), &rt, false);
-    tell(&rt.stderr(), rt.alloc(), outcome, name)
+    run_named(&rt, || list(&mut rt.stdin(), &rt, false))
 }

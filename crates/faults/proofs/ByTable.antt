@@ -13,7 +13,7 @@ use Rattle.reference.specs.declared.TaggedProfile.{TaggedProfile}
 use Rattle.reference.specs.declared.TaggedProfile.TheVariants as Sort
 use Rattle.reference.specs.declared.Profile.{Profile as Entry}
 use Rattle.reference.specs.declared.View.{View}
-use Rattle.reference.specs.declared.Check.TheVariants.{Pass}
+use Rattle.std.specs.Prelude.{Ok}
 use Rattle.reference.specs.Layout.{gap_length}
 use Rattle.reference.specs.Used.{taps_in, names_in, extras_in, owned, body_view}
 use Rattle.reference.specs.Meaning.{sum}
@@ -54,7 +54,7 @@ owned_parts (p ∷ l) ts ns es ht hn he =
     omega (arith, body_parts p.body ts ns es, rest, sum_split tap_size a ts, sum_split name_size b ns, sum_split extra_size c es)
 
 module _ (rule : TypeIdRule) where
-  pub sizes_by_table : (t : List ℕ) → counts_check (tables_from t) ≡ Pass → octets_in (used_in t) + gap_length rule (view_from t 0).len ≡ size_of rule (used_in t)
+  pub sizes_by_table : (t : List ℕ) → counts_check (tables_from t) ≡ Ok tt → octets_in (used_in t) + gap_length rule (view_from t 0).len ≡ size_of rule (used_in t)
   unfolding size_of tables_from
   sizes_by_table t h =
       let g = agreeing t h in
@@ -69,7 +69,7 @@ pub ends_told : {n : ℕ} {t : List ℕ} {s : Survey} → Surveyed (min n 65535)
 ends_told {t = t} k h = k.ends ∙ ap (λ (m : ℕ). passing (views_check m (used_in t))) (min-eq_left h)
 
 module _ (rule : TypeIdRule) where
-  pub octets_told : {m : ℕ} {t : List ℕ} {s : Survey} → Surveyed m t s → counts_check (tables_from t) ≡ Pass → {x : ℕ} → x ≡ s.octets + gap_length rule (view_from t 0).len → x ≡ size_of rule (used_in t)
+  pub octets_told : {m : ℕ} {t : List ℕ} {s : Survey} → Surveyed m t s → counts_check (tables_from t) ≡ Ok tt → {x : ℕ} → x ≡ s.octets + gap_length rule (view_from t 0).len → x ≡ size_of rule (used_in t)
   octets_told {t = t} k h e = e ∙ ap (λ (n : ℕ). n + gap_length rule (view_from t 0).len) k.octets ∙ sizes_by_table rule t h
 
 -- a profile's view is its key, its context or its data

@@ -6,6 +6,7 @@ use native.Mathlib.Numerals.{add-one}
 use native.Mathlib.Omega.{arith}
 use lib.ListN.{length, take, drop, get_or, drop_of_length-le}
 use lib.Seq.{drop-cons, get_or-take, length-take-le}
+use Rattle.std.proofs.lemmas.List.{same_lists}
 use Rattle.octets.specs.Octets.{part}
 use Rattle.octets.proofs.Part.{length_part, part_get}
 use Rattle.table.specs.Region.{listed}
@@ -23,6 +24,10 @@ module _ {E : Type 0} {xs : List E} {e : ℕ → E} {n : ℕ} (l : Listed xs e n
 
   pub ends : (i : ℕ) → n ≤ i → drop i xs ≡ []
   ends i h = let k : length xs ≤ i = omega (arith, l.size) in drop_of_length-le xs k
+
+  pub all_listed : xs ≡ listed n e
+  all_listed =
+      same_lists xs (listed n e) (l.size ∙ sym (listed_length n e)) (λ i z h. l.tells i z (omega (arith, l.size)) ∙ sym (listed_get n e i z (omega (arith, l.size))))
 
   -- count of them from first on
   pub some : (first count : ℕ) → first + count ≤ n → Listed (part xs first count) (λ j. e (first + j)) count

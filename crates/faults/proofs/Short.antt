@@ -14,8 +14,8 @@ use Rattle.reference.specs.declared.LiteComponent.{LiteComponent}
 use Rattle.reference.specs.declared.TaggedProfile.{TaggedProfile}
 use Rattle.reference.specs.declared.Profile.{Profile as Entry}
 use Rattle.reference.specs.declared.Refusal.{Refusal}
-use Rattle.reference.specs.declared.Check.{Check}
-use Rattle.reference.specs.declared.Check.TheVariants.{Pass, Refuse}
+use Rattle.reference.specs.Refusals.{Check}
+use Rattle.std.specs.Prelude.{Ok, Err}
 use Rattle.reference.specs.Used.{Own, taps_in, names_in, extras_in, owned_of, body_view}
 use Rattle.reference.specs.Tabled.{no_profile}
 use Rattle.reference.specs.Checks.{both, each}
@@ -23,7 +23,7 @@ use Rattle.reference.specs.Meaning.{sum}
 use Rattle.reference.specs.Writer.{tap_size, counted, short_check, extra_short, own_short}
 use Rattle.reference.proofs.Checks.{stop, go}
 use Rattle.reference.proofs.Walk.{ahead, ahead_open, ahead_end, counted_open, counted_within}
-use Rattle.table.specs.Flat.{body_from, body_of_table, Lent, profiles_used, profile_of_table}
+use Rattle.table.specs.Flat.{body_from, body_of_table, profiles_used, profile_of_table}
 use Rattle.table_entries.proofs.Sorts.{body_biop, body_lite, body_opaque}
 use Rattle.survey.specs.ByTable.{used_in}
 use Rattle.faults.specs.Short.{short_at, short_here, Within}
@@ -40,16 +40,16 @@ module _ (ts : List Tap) (es : List LiteComponent) (a c : ℕ) where
   biop_at b = both (short_check (9 + (body_view b).len)) (both (short_check (1 + sum tap_size (part ts a (taps_in b)))) (extras_at b))
 
   module _ (t : List ℕ) (k : ℕ) where
-    pub short_biop : get_or t k 0 ≡ 1 → biop_at (body_from t k) ≡ short_at ts es a c (body_from t k)
-    short_biop e = ap biop_at (body_biop t k e) ∙ sym (ap (short_at ts es a c) (body_biop t k e))
+    pub short_biop : get_or t k 0 ≡ 1 → {w : Check} → w ≡ biop_at (body_from t k) → w ≡ short_at ts es a c (body_from t k)
+    short_biop e h = h ∙ ap biop_at (body_biop t k e) ∙ sym (ap (short_at ts es a c) (body_biop t k e))
 
-    pub short_other : get_or t k 0 ≢ 1 → extras_at (body_from t k) ≡ short_at ts es a c (body_from t k)
+    pub short_other : get_or t k 0 ≢ 1 → {w : Check} → w ≡ extras_at (body_from t k) → w ≡ short_at ts es a c (body_from t k)
     unfolding each
-    short_other h = by_sort (eqb (get_or t k 0) 2) refl
+    short_other h {w} q = by_sort (eqb (get_or t k 0) 2) refl
       where
-        by_sort : (b : Bool) → eqb (get_or t k 0) 2 ≡ b → extras_at (body_from t k) ≡ short_at ts es a c (body_from t k)
-        by_sort true e = let q = body_lite t k (eqb-true _ _ e) in ap extras_at q ∙ sym (ap (short_at ts es a c) q)
-        by_sort false e = let q = body_opaque t k h (eqb-false _ _ e) in ap extras_at q ∙ sym (ap (short_at ts es a c) q)
+        by_sort : (b : Bool) → eqb (get_or t k 0) 2 ≡ b → w ≡ short_at ts es a c (body_from t k)
+        by_sort true e = let p = body_lite t k (eqb-true _ _ e) in q ∙ ap extras_at p ∙ sym (ap (short_at ts es a c) p)
+        by_sort false e = let p = body_opaque t k h (eqb-false _ _ e) in q ∙ ap extras_at p ∙ sym (ap (short_at ts es a c) p)
 
 -- ---- the profiles in a row
 
@@ -70,7 +70,7 @@ module _ {t : List ℕ} (g : Agreeing t) {tap extra i : ℕ} (p : Passed t tap e
   profiles_here : Listed (used_in t).profiles (profile_of_table t) (profiles_used t)
   profiles_here = profiles_listed t g.profiles
 
-  pub passed_end : profiles_used t ≤ i → Pass ≡ each own_short (owned_of (used_in t))
+  pub passed_end : profiles_used t ≤ i → Ok tt ≡ each own_short (owned_of (used_in t))
   unfolding each
   passed_end h =
       let u = used_in t in
@@ -88,11 +88,10 @@ module _ {t : List ℕ} (g : Agreeing t) {tap extra i : ℕ} (p : Passed t tap e
         ap (λ (b : TaggedProfile). counted f (take i (used_in t).profiles) + f b) (sym body_here)
         ∙ counted_open f (used_in t).profiles i no_profile (omega (arith, profiles_here.size))
 
-    pub passed_within : Lent t → Within t i tap extra
-    passed_within n =
+    pub passed_within : Within t i tap extra
+    passed_within =
         let ps = (used_in t).profiles in
         record {
-          numbers = n;
           profile = omega (arith, g.profiles);
           taps = g.taps;
           extras = g.extras;
@@ -114,7 +113,7 @@ module _ {t : List ℕ} (g : Agreeing t) {tap extra i : ℕ} (p : Passed t tap e
         ∙ (λ j.
         both (short_at u.taps u.extras tap extra (q j)) (each own_short (left t (i + 1) (tap + taps_in (q j)) (n j) (extra + extras_in (q j)))))
 
-    pub passed_turn : short_here t i tap extra ≡ Pass → {m n : ℕ} → m ≡ taps_in (body_of_table t i) → n ≡ extras_in (body_of_table t i) → Passed t (tap + m) (extra + n) (i + 1)
+    pub passed_turn : short_here t i tap extra ≡ Ok tt → {m n : ℕ} → m ≡ taps_in (body_of_table t i) → n ≡ extras_in (body_of_table t i) → Passed t (tap + m) (extra + n) (i + 1)
     passed_turn e p₁ p₂ =
         record {
           taps = omega (arith, p.taps, p₁, more taps_in);
@@ -124,5 +123,5 @@ module _ {t : List ℕ} (g : Agreeing t) {tap extra i : ℕ} (p : Passed t tap e
               ∙ sym (here ∙ go (short_here t i tap extra) _ e);
         }
 
-    pub passed_stop : {r : Refusal} → short_here t i tap extra ≡ Refuse r → Refuse r ≡ each own_short (owned_of (used_in t))
+    pub passed_stop : {r : Refusal} → short_here t i tap extra ≡ Err r → Err r ≡ each own_short (owned_of (used_in t))
     passed_stop e = sym (here ∙ stop (short_here t i tap extra) _ _ e)

@@ -2,7 +2,7 @@
 use Prim.Native.Nat.{ℕ, ◌≤◌}
 use mathlib.Core.Path.{◌≡◌}
 use mathlib.Core.List.{List}
-use Rattle.reference.specs.declared.Check.TheVariants.{Pass}
+use Rattle.std.specs.Prelude.{Ok}
 use Rattle.reference.specs.Writer.{counts_check}
 use Rattle.reference.proofs.Agreeing as Counts
 use Rattle.table.specs.Flat.{tables_from, tap_of_table, name_of_table, extra_of_table, profile_region, tap_region, name_region, extra_region, profiles_used, taps_used, names_used, extras_used, profile_of_table}
@@ -30,6 +30,6 @@ module _ (t : List ℕ) where
 abbrev pub Agreeing : List ℕ → Type 0
 Agreeing t = Counts.Agreeing (used_in t).profiles (profiles_used t) (taps_used t) (names_used t) (extras_used t)
 
-pub agreeing : (t : List ℕ) → counts_check (tables_from t) ≡ Pass → Agreeing t
+pub agreeing : (t : List ℕ) → counts_check (tables_from t) ≡ Ok tt → Agreeing t
 unfolding tables_from
 agreeing t h = Counts.agreeing (tables_from t) h

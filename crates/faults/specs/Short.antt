@@ -4,10 +4,10 @@ use Rattle.octets.specs.Octets.{part}
 use Rattle.reference.specs.declared.Tap.{Tap}
 use Rattle.reference.specs.declared.LiteComponent.{LiteComponent}
 use Rattle.reference.specs.declared.TaggedProfile.{TaggedProfile}
-use Rattle.reference.specs.declared.Check.{Check}
+use Rattle.reference.specs.Refusals.{Check}
 use Rattle.reference.specs.Used.{taps_in, extras_in}
 use Rattle.reference.specs.Writer.{body_short}
-use Rattle.table.specs.Flat.{body_of_table, profile_region, tap_region, extra_region, Lent, taps_used, extras_used}
+use Rattle.table.specs.Flat.{body_of_table, profile_region, tap_region, extra_region, taps_used, extras_used}
 use Rattle.survey.specs.ByTable.{used_in}
 
 -- of a profile with its entries among those of the tables
@@ -20,7 +20,6 @@ short_here t i tap extra = short_at (used_in t).taps (used_in t).extras tap extr
 
 -- the entries of profile i lie within the used ones
 pub record Within (t : List ℕ) (i tap extra : ℕ) : Type 0 where
-  pub numbers : Lent t
   pub profile : i < profile_region.size
   pub taps : taps_used t ≤ tap_region.size
   pub extras : extras_used t ≤ extra_region.size

@@ -3,84 +3,56 @@
 #![tactic(auto)]
 
 use ior::{FlatTable, TABLE};
-use outcome::{input_name, tell_written};
+use outcome::{Failure, run_named};
 use reference::{
-    AddressWay, Answer, FirstBiop, ObjectKind, ObjectLocation, Refusal, Tables, TaggedProfile,
+    AddressWay, Answer, ObjectKind, ObjectLocation, Reading, Refusal, Tables, TaggedProfile,
     TypeIdRule, View,
 };
 use std::io;
 use std::process::ExitCode;
 use table::{MODULE, PROFILES_AT};
 
-fn say(to: &impl Print, text: &[u8]) -> io::Result<()> {
-    to.write_all(text)
-}
-
-fn say_number(to: &impl Print, text: &[u8], n: u64) -> io::Result<()> {
-    say(to, text)?;
-    println!(to; "{n}")
-}
-
-fn wide(x: u8) -> u64 {
-    x as u64
-}
-
-fn long(x: u32) -> u64 {
-    x as u64
-}
-
-fn say_octets(to: &impl Print, s: &[u8]) -> io::Result<()> {
-    for octet in s {
-        let octet = *octet;
+fn say_octets(to: &impl Print, octets: &[u8]) -> io::Result<()> {
+    for octet in octets {
         print!(to; "{octet:02x}")?;
     }
-    say(to, b"\n")
+    println!(to; "")
 }
 
 // What a view shows: its octets in the caller's slice. The views of an accepted reading lie within it.
 fn show(to: &impl Print, s: &[u8], v: View) -> io::Result<()> {
     let at = v.at as usize;
-    let stop = at + v.len as usize;
-    if s.len() < stop {
-        return Ok(());
+    match s.get(at..at + v.len as usize) {
+        Some(octets) => say_octets(to, octets),
+        None => Ok(()),
     }
-    say_octets(to, &s[at..stop])
 }
 
 fn say_kind(to: &impl Print, type_id: &[u8]) -> io::Result<()> {
     match ior::object_kind(type_id) {
-        ObjectKind::Directory => say(to, b"kind dir\n"),
-        ObjectKind::File => say(to, b"kind fil\n"),
-        ObjectKind::Stream => say(to, b"kind str\n"),
-        ObjectKind::ServiceGateway => say(to, b"kind srg\n"),
-        ObjectKind::StreamEvent => say(to, b"kind ste\n"),
-        ObjectKind::Unknown(n) => say_number(to, b"kind ", n as u64),
+        ObjectKind::Directory => println!(to; "kind dir"),
+        ObjectKind::File => println!(to; "kind fil"),
+        ObjectKind::Stream => println!(to; "kind str"),
+        ObjectKind::ServiceGateway => println!(to; "kind srg"),
+        ObjectKind::StreamEvent => println!(to; "kind ste"),
+        ObjectKind::Unknown(n) => println!(to; "kind {n}"),
     }
 }
 
-fn say_location(to: &impl Print, s: &[u8], l: ObjectLocation) -> io::Result<()> {
-    let key = l.key;
-    say_number(to, b"carousel ", l.carousel as u64)?;
-    say_number(to, b"module ", l.module as u64)?;
-    say(to, b"key ")?;
-    show(to, s, key)
+fn say_location(to: &impl Print, s: &[u8], location: ObjectLocation) -> io::Result<()> {
+    println!(to; "carousel {}", location.carousel)?;
+    println!(to; "module {}", location.module)?;
+    print!(to; "key ")?;
+    show(to, s, location.key)
 }
 
 // Which module the reference names: the location of its first BIOP profile.
 fn say_where(to: &impl Print, s: &[u8], t: Tables) -> io::Result<()> {
-    if let FirstBiop::At(i) = ior::first_biop(t) {
-        if i < 8 {
-            let p = t.profiles[i];
-            let body = p.body;
-            if let TaggedProfile::Biop {
-                location,
-                taps: _,
-                extras: _,
-            } = body
-            {
-                return say_location(to, s, location);
-            }
-        }
+    if let Ok(Some(i)) = ior::first_biop(t)
+        && let Some(profile) = t.profiles.get(i)
+        && let TaggedProfile::Biop { location, .. } = profile.body
+    {
+        return say_location(to, s, location);
     }
     Ok(())
 }
@@ -89,46 +61,38 @@ fn say_where(to: &impl Print, s: &[u8], t: Tables) -> io::Result<()> {
 fn write_anew(to: &impl Print, s: &[u8], t: Tables) -> io::Result<()> {
     let mut out = [0u8; 64];
     match ior::write(t, s, &mut out) {
-        Answer::Count(n) => say_number(to, b"written ", n as u64),
-        Answer::Refused(r) => say_number(to, b"not written: refusal ", wide(r.number)),
+        Ok(n) => println!(to; "written {n}"),
+        Err(why) => println!(to; "not written: refusal {}", why.number),
     }
-}
-
-fn say_place(to: &impl Print, place: u8) -> io::Result<()> {
-    if place == 0 {
-        return Ok(());
-    }
-    say_number(to, b"place ", wide(place))
 }
 
 // A reading's refusal: number, place, both figures, and the octet at which it broke. 2 has no place: its figures tell what was declared and what there was.
 fn say_refusal(to: &impl Print, why: Refusal) -> io::Result<()> {
-    say_number(to, b"refusal ", wide(why.number))?;
-    say_place(to, why.place)?;
-    say_number(to, b"first figure ", why.first as u64)?;
-    say_number(to, b"second figure ", why.second as u64)?;
-    say_number(to, b"at octet ", why.offset as u64)
+    println!(to; "refusal {}", why.number)?;
+    if why.place != 0 {
+        println!(to; "place {}", why.place)?;
+    }
+    println!(to; "first figure {}", why.first)?;
+    println!(to; "second figure {}", why.second)?;
+    println!(to; "at octet {}", why.offset)
 }
 
 fn read_and_say(to: &impl Print, s: &[u8]) -> io::Result<()> {
-    let r = ior::read_leading(s);
-    let answer = r.answer;
-    let tables = r.tables;
+    let Reading { answer, tables } = ior::read_leading(s);
     match answer {
-        Answer::Count(n) => {
-            say_number(to, b"read ", n as u64)?;
+        Ok(n) => {
+            println!(to; "read {n}")?;
             say_where(to, s, tables)?;
             write_anew(to, s, tables)
         }
-        Answer::Refused(why) => say_refusal(to, why),
+        Err(why) => say_refusal(to, why),
     }
 }
 
-fn say_answer(to: &impl Print, text: &[u8], answer: Answer) -> io::Result<()> {
-    say(to, text)?;
+fn say_answer(to: &impl Print, what: &str, answer: Answer) -> io::Result<()> {
     match answer {
-        Answer::Count(n) => say_number(to, b" ", n as u64),
-        Answer::Refused(r) => say_number(to, b" refusal ", wide(r.number)),
+        Ok(n) => println!(to; "{what} {n}"),
+        Err(why) => println!(to; "{what} refusal {}", why.number),
     }
 }
 
@@ -139,10 +103,9 @@ const FIRST_MODULE: usize = PROFILES_AT + MODULE;
 fn write_too_wide(to: &impl Print, s: &[u8], table: &mut FlatTable) -> io::Result<()> {
     let mut out = [0u8; 64];
     table[FIRST_MODULE] = 65578;
-    let length = ior::length_from(table, s);
+    say_answer(to, "lent, too wide: length", ior::length_from(table, s))?;
     let written = ior::write_from(table, s, &mut out);
-    say_answer(to, b"lent, too wide: length", length)?;
-    say_answer(to, b"lent, too wide: written", written)
+    say_answer(to, "lent, too wide: written", written)
 }
 
 // The same by a table that the caller lends, whatever it held before.
@@ -150,59 +113,45 @@ fn lend_a_table(to: &impl Print, s: &[u8]) -> io::Result<()> {
     let mut table = [0xA5A5A5A5u32; TABLE];
     let mut out = [0u8; 64];
     let read = ior::read_whole_into(s, &mut table);
+    say_answer(to, "lent: read", read)?;
+    println!(to; "lent: module {}", table[FIRST_MODULE])?;
     let written = ior::write_from(&table, s, &mut out);
-    say_answer(to, b"lent: read", read)?;
-    say_number(to, b"lent: module ", long(table[FIRST_MODULE]))?;
-    say_answer(to, b"lent: written", written)?;
+    say_answer(to, "lent: written", written)?;
     write_too_wide(to, s, &mut table)
 }
 
 // A type id of five octets with its gap: what rule 1 refuses, rule 2 reads, and writes with the gap.
 fn read_by_rules(to: &impl Print, s: &[u8]) -> io::Result<()> {
     let mut out = [0u8; 64];
-    let first = ior::read_leading_by(s, TypeIdRule::Multiple);
-    let refused = first.answer;
-    let second = ior::read_leading_by(s, TypeIdRule::Gap);
-    let accepted = second.answer;
-    let tables = second.tables;
+    let refused = ior::read_leading_by(s, TypeIdRule::Multiple);
+    say_answer(to, "rule 1: read", refused.answer)?;
+    let Reading { answer, tables } = ior::read_leading_by(s, TypeIdRule::Gap);
+    say_answer(to, "rule 2: read", answer)?;
     let written = ior::write_by(tables, s, &mut out, TypeIdRule::Gap, AddressWay::Constants);
-    say_answer(to, b"rule 1: read", refused)?;
-    say_answer(to, b"rule 2: read", accepted)?;
-    say_answer(to, b"rule 2: written", written)
-}
-
-// Of the same reference: a profile that declares 24 octets where 10 are left, and a profile's header that is cut.
-fn refusals(to: &impl Print) -> io::Result<()> {
-    read_and_say(
-        to,
-        b"\x00\x00\x00\x04\x73\x72\x67\x00\x00\x00\x00\x01\x49\x53\x4F\x06\x00\x00\x00\x18\x00\x02\x49\x53\x4F\x50\x0B\x00\x00\x00",
-    )?;
-    read_and_say(
-        to,
-        b"\x00\x00\x00\x04\x73\x72\x67\x00\x00\x00\x00\x01\x49\x53\x4F\x06",
-    )
+    say_answer(to, "rule 2: written", written)
 }
 
 // A service gateway's reference with one BIOP profile, whose key has two octets.
+const REFERENCE: [u8; 44] =
+    *b"\x00\x00\x00\x04\x73\x72\x67\x00\x00\x00\x00\x01\x49\x53\x4F\x06\x00\x00\x00\x18\x00\x02\x49\x53\x4F\x50\x0B\x00\x00\x00\x07\x00\x2A\x01\x00\x02\xC0\xDE\x49\x53\x4F\x40\x01\x00";
+
+// One with a type id of five octets and the gap of three behind it.
+const WITH_GAP: [u8; 16] = *b"\x00\x00\x00\x05\x61\x62\x63\x64\x65\xFF\xFF\xFF\x00\x00\x00\x00";
+
+// Of the first: a profile that declares 24 octets where 10 are left, and a profile's header that is cut.
+fn refusals(to: &impl Print) -> io::Result<()> {
+    read_and_say(to, &REFERENCE[..30])?;
+    read_and_say(to, &REFERENCE[..16])
+}
+
 fn run(to: &impl Print) -> io::Result<()> {
-    read_and_say(
-        to,
-        b"\x00\x00\x00\x04\x73\x72\x67\x00\x00\x00\x00\x01\x49\x53\x4F\x06\x00\x00\x00\x18\x00\x02\x49\x53\x4F\x50\x0B\x00\x00\x00\x07\x00\x2A\x01\x00\x02\xC0\xDE\x49\x53\x4F\x40\x01\x00",
-    )?;
+    read_and_say(to, &REFERENCE)?;
     say_kind(to, b"srg\x00")?;
-    lend_a_table(
-        to,
-        b"\x00\x00\x00\x04\x73\x72\x67\x00\x00\x00\x00\x01\x49\x53\x4F\x06\x00\x00\x00\x18\x00\x02\x49\x53\x4F\x50\x0B\x00\x00\x00\x07\x00\x2A\x01\x00\x02\xC0\xDE\x49\x53\x4F\x40\x01\x00",
-    )?;
-    read_by_rules(
-        to,
-        b"\x00\x00\x00\x05\x61\x62\x63\x64\x65\xFF\xFF\xFF\x00\x00\x00\x00",
-    )?;
+    lend_a_table(to, &REFERENCE)?;
+    read_by_rules(to, &WITH_GAP)?;
     refusals(to)
 }
 
 fn main(rt: HostRuntime) -> ExitCode {
-    let mut room = [0u8; 4096];
-    let name = input_name(&rt, &mut room);
-    tell_written(&rt.stderr(), rt.alloc(), run(&rt), name)
+    run_named(&rt, || run(&rt).map_err(Failure::NotWritten))
 }

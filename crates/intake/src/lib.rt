@@ -1,7 +1,7 @@
 // Input from a reader into lent slices: parts of a known length, and the records of a cache in blocks. A read that fails is told apart from the input's end.
 #![tactic(auto)]
 
-ghost use Rattle.std.specs.Prelude.{◌≡◌, ◌+◌, ◌-◌, ◌≤◌, ◌<◌, length};
+ghost use Rattle.std.specs.Prelude.{◌≡◌, ◌+◌, ◌-◌, ◌≤◌, ◌<◌, length, IfOk};
 ghost use Rattle.intake.specs.Counts.{IsPrefixLen};
 ghost use Rattle.octets.specs.Octets.{part, splice};
 
@@ -9,62 +9,28 @@ use records::announced_by;
 use std::io;
 use std::io::Read;
 
-// How many octets came, and why the read failed, if it did. None: the input ended, or the read failed.
-#[derive(Drop)]
-pub struct Came {
-    pub count: usize,
-    pub failure: Option<io::Error>,
-}
-
-// One read to the start of `part`, which is not empty: an empty one would look like the input's end.
-fn read_some<R: Read>(input: &mut R, part: &mut [u8]) -> Came
+// One read to the start of `part`, which is not empty: an empty one would look like the input's end. How many octets came; none where the input ended.
+fn read_some<R: Read>(input: &mut R, part: &mut [u8]) -> io::Result<usize>
     requires { 0 < length part.old }
-    ensures { IsPrefixLen result.count part.new }
+    ensures { IfOk result (λ count. IsPrefixLen count part.new) }
 {
-    match input.read(part) {
-        Ok(count) => Came {
-            count,
-            failure: None,
-        },
-        Err(error) => Came {
-            count: 0,
-            failure: Some(error),
-        },
-    }
+    input.read(part)
 }
 
-// Reads until `part` is full: fewer octets came if the input ended or a read failed.
-pub fn fill_from<R: Read>(input: &mut R, part: &mut [u8]) -> Came
-    ensures { result.count ≤ length part.old }
+// Reads until `part` is full: fewer octets came if the input ended.
+pub fn fill_from<R: Read>(input: &mut R, part: &mut [u8]) -> io::Result<usize>
+    ensures { IfOk result (λ count. count ≤ length part.old) }
 {
     let room = part.len();
     let mut done: usize = 0;
     while done < room {
-        let came = read_some(input, &mut part[done..]);
-        if came.count == 0 {
-            return Came {
-                count: done,
-                failure: came.failure,
-            };
+        let count = read_some(input, &mut part[done..])?;
+        if count == 0 {
+            break;
         }
-        done += came.count;
+        done += count;
     }
-    Came {
-        count: done,
-        failure: None,
-    }
-}
-
-// The n octets from `from` on, moved down to `to`.
-fn move_down(room: &mut [u8], from: usize, n: usize, to: usize)
-    requires { (to ≤ from) × (from + n ≤ length room.old) }
-    ensures { room.new ≡ splice room.old to (part room.old from n) }
-{
-    let mut i: usize = 0;
-    while i < n {
-        room[to + i] = room[from + i];
-        i += 1;
-    }
+    Ok(done)
 }
 
 // The n octets from `from` on, moved to the front. Where they stand there already nothing is moved, so that a pipe that brings an octet at a time costs no
@@ -76,13 +42,13 @@ fn to_front(room: &mut [u8], from: usize, n: usize)
     if from == 0 {
         return;
     }
-    move_down(room, from, n, 0);
+    room.copy_within(from..from + n, 0);
 }
 
 // One read behind what stands in `room` from `from` to before `to`, which is moved to the front first: how many octets came behind it.
-fn refill<R: Read>(input: &mut R, room: &mut [u8], from: usize, to: usize) -> Came
+fn refill<R: Read>(input: &mut R, room: &mut [u8], from: usize, to: usize) -> io::Result<usize>
     requires { (from ≤ to) × (to ≤ length room.old) × (to - from < length room.old) }
-    ensures count_in_bounds { (to - from) + result.count ≤ length room.new }
+    ensures count_in_bounds { IfOk result (λ count. (to - from) + count ≤ length room.new) }
     ensures from_after { part room.new 0 (to - from) ≡ part room.old from (to - from) }
 {
     let kept = to - from;
@@ -92,16 +58,13 @@ fn refill<R: Read>(input: &mut R, room: &mut [u8], from: usize, to: usize) -> Ca
 
 // More octets behind those from `from` to before `to`, which are no whole record and are moved to the front: how many came. None come behind a wrong
 // mark, which no octet can mend (`broken_there`).
-pub fn fetch<R: Read>(input: &mut R, room: &mut [u8], from: usize, to: usize) -> Came
+pub fn fetch<R: Read>(input: &mut R, room: &mut [u8], from: usize, to: usize) -> io::Result<usize>
     requires { (from ≤ to) × (to ≤ length room.old) × (65539 ≤ length room.old) }
-    ensures count_bound { to + result.count ≤ from + length room.old }
-    ensures from_after { 0 < result.count → part room.new 0 (to - from) ≡ part room.old from (to - from) }
+    ensures count_bound { IfOk result (λ count. to + count ≤ from + length room.old) }
+    ensures from_after { IfOk result (λ count. 0 < count → part room.new 0 (to - from) ≡ part room.old from (to - from)) }
 {
     if 4 + announced_by(&room[from..to]) as usize <= to - from {
-        return Came {
-            count: 0,
-            failure: None,
-        };
+        return Ok(0);
     }
     refill(input, room, from, to)
 }

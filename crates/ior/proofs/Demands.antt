@@ -11,8 +11,8 @@ use mathlib.Core.Logic.{◌≢◌, ◌↔◌}
 use lib.ListN.{length, take, get_or}
 use lib.Dec.{T}
 use Rattle.octets.specs.Octets.{Octets, Each}
-use Rattle.reference.specs.declared.Answer.{Answer as Told}
-use Rattle.reference.specs.declared.Answer.TheVariants.{Count, Refused}
+use Rattle.reference.specs.Refusals.{Told}
+use Rattle.std.specs.Prelude.{Option, Result, Ok, Err}
 use Rattle.reference.specs.declared.Reading.{Reading}
 use Rattle.reference.specs.declared.Refusal.{Refusal}
 use Rattle.reference.specs.declared.Tables.{Tables}
@@ -22,7 +22,7 @@ use Rattle.reference.specs.declared.AddressWay.{AddressWay}
 use Rattle.reference.specs.declared.AddressWay.TheVariants.{Constants}
 use Rattle.reference.specs.Reader.{read_address}
 use Rattle.reference.specs.Reader as Reader
-use Rattle.reference.specs.Steps.{seen, ok}
+use Rattle.reference.specs.Steps.{answer_of, seen, ok}
 use Rattle.reference.specs.Today.{Leads, tables_of, read_leading, read_whole, answered, image_of, measured, ShowsFields, GivesBack, ReadsBack, Points, Alike}
 use Rattle.reference.specs.Tabled.{tabled, no_tables, used_of}
 use Rattle.reference.specs.Typed.{Typed, Unknown}
@@ -38,10 +38,6 @@ use Rattle.reference.specs.Questions.{kind_of, tap_numbers_of, first_biop, dvb_a
 use Rattle.reference.specs.Names.{read_short_name, short_at}
 use Rattle.reference.specs.declared.ObjectKind.{ObjectKind}
 use Rattle.reference.specs.declared.TapNumbers.{TapNumbers}
-use Rattle.reference.specs.declared.FirstBiop.{FirstBiop}
-use Rattle.names.specs.declared.ShortNameRead.{ShortNameRead}
-use Rattle.names.specs.declared.ShortNameRead.TheVariants as Names
-use Rattle.names.specs.Told.{short_told}
 use Rattle.names.specs.Writes as Short
 use Rattle.names.proofs.Promises as names
 use Rattle.reference.proofs.Rules as agreeing
@@ -62,7 +58,7 @@ module _ (s : List ℕ) (o : Octets s) where
   accepts_whole_exactly = rules.accepts_whole_exactly Multiple s o
 
   -- What the whole reading accepts, the leading reading accepts with the same answer and tables: what is promised of one holds of the other.
-  pub whole_is_leading : (r : Reading) → r ≡ answered (read_whole s) → (n : ℕ) → r.answer ≡ Count n → (r ≡ answered (read_leading s)) × (n ≡ length s)
+  pub whole_is_leading : (r : Reading) → r ≡ answered (read_whole s) → (n : ℕ) → r.answer ≡ Ok n → (r ≡ answered (read_leading s)) × (n ≡ length s)
   whole_is_leading = rules.whole_is_leading Multiple s o
 
   -- Part and meaning are unique: an invented consumed count or a second reading of the same octets is shut out.
@@ -71,43 +67,43 @@ module _ (s : List ℕ) (o : Octets s) where
 
   -- The tables of an accepted reading: each view shows the very octets of its field, at the offset where the field stands; unused entries are zero; the sums
   -- equal the used counts.
-  pub views_show_their_fields : (r : Reading) → r ≡ answered (read_leading s) → (n : ℕ) → r.answer ≡ Count n
+  pub views_show_their_fields : (r : Reading) → r ≡ answered (read_leading s) → (n : ℕ) → r.answer ≡ Ok n
       → (m : Reference) × (Leads s m n) × (ShowsFields s m r.tables)
   views_show_their_fields = rules.views_show_their_fields Multiple s o
 
   -- Writing the tables of an accepted reading over the same octets into any output with room answers the part's length and gives the part back: at every index
   -- but the seven constants of each address the octets are equal, and behind the part the output is as before (`GivesBack`).
-  pub write_gives_back : (r : Reading) → r ≡ answered (read_leading s) → (n : ℕ) → r.answer ≡ Count n
-      → (d : List ℕ) (w : Told) (e : List ℕ) → Writes r.tables s d w e → n ≤ length d → (m : Reference) × (Leads s m n) × (w ≡ Count n) × (GivesBack s m n d e)
+  pub write_gives_back : (r : Reading) → r ≡ answered (read_leading s) → (n : ℕ) → r.answer ≡ Ok n
+      → (d : List ℕ) (w : Told) (e : List ℕ) → Writes r.tables s d w e → n ≤ length d → (m : Reference) × (Leads s m n) × (w ≡ Ok n) × (GivesBack s m n d e)
   write_gives_back = rules.write_gives_back Multiple Constants s o
 
 -- DEMAND 1, first half: a refused reading gives the empty tables.
-pub refused_reading_is_empty : (s : List ℕ) (r : Reading) → r ≡ answered (read_leading s) → (x : Refusal) → r.answer ≡ Refused x → r.tables ≡ no_tables
+pub refused_reading_is_empty : (s : List ℕ) (r : Reading) → r ≡ answered (read_leading s) → (x : Refusal) → r.answer ≡ Err x → r.tables ≡ no_tables
 refused_reading_is_empty = rules.refused_reading_is_empty Multiple
 
-pub refused_whole_is_empty : (s : List ℕ) (r : Reading) → r ≡ answered (read_whole s) → (x : Refusal) → r.answer ≡ Refused x → r.tables ≡ no_tables
+pub refused_whole_is_empty : (s : List ℕ) (r : Reading) → r ≡ answered (read_whole s) → (x : Refusal) → r.answer ≡ Err x → r.tables ≡ no_tables
 refused_whole_is_empty = rules.refused_whole_is_empty Multiple
 
 module _ (t : Tables) (s d : List ℕ) (r : Told) (e : List ℕ) (w : Writes t s d r e) where
   -- DEMAND 1, second half: a refused writing changes no octet.
-  pub refused_writing_leaves_all : (x : Refusal) → r ≡ Refused x → e ≡ d
+  pub refused_writing_leaves_all : (x : Refusal) → r ≡ Err x → e ≡ d
   refused_writing_leaves_all = rules.refused_writing_leaves_all Multiple Constants t s d r e w
 
   -- An accepted one puts the image at the front, as long as it answers, and leaves the octets behind it.
-  pub accepted_writing_puts : (n : ℕ) → r ≡ Count n → PutInFront (image_of s t) d n e
+  pub accepted_writing_puts : (n : ℕ) → r ≡ Ok n → PutInFront (image_of s t) d n e
   accepted_writing_puts = rules.accepted_writing_puts Multiple Constants t s d r e w
 
   -- DEMAND 3, the other way: tables that the writer accepts, with no opaque profile under a known tag, are read back from the output itself with equal contents.
-  pub written_reads_back : Octets s → Octets d → length d ≤ 65535 → Typed t → Each Unknown (used_of t).profiles → (n : ℕ) → r ≡ Count n
+  pub written_reads_back : Octets s → Octets d → length d ≤ 65535 → Typed t → Each Unknown (used_of t).profiles → (n : ℕ) → r ≡ Ok n
       → (q : Reading) → q ≡ answered (read_leading e) → ReadsBack t s n e q
   written_reads_back = rules.written_reads_back Multiple Constants t s d r e w
 
   -- The n octets that were written, read as a whole slice, say the same, whatever the output's length.
-  pub image_reads_back : Octets s → Typed t → Each Unknown (used_of t).profiles → (n : ℕ) → r ≡ Count n → (q : Reading) → q ≡ answered (read_whole (take n e)) → ReadsBack t s n (take n e) q
+  pub image_reads_back : Octets s → Typed t → Each Unknown (used_of t).profiles → (n : ℕ) → r ≡ Ok n → (q : Reading) → q ≡ answered (read_whole (take n e)) → ReadsBack t s n (take n e) q
   image_reads_back = rules.image_reads_back Multiple Constants t s d r e w
 
   -- The octets of an accepted image are octets.
-  pub image_octets : Octets s → Typed t → (n : ℕ) → r ≡ Count n → Octets (image_of s t)
+  pub image_octets : Octets s → Typed t → (n : ℕ) → r ≡ Ok n → Octets (image_of s t)
   image_octets = rules.image_octets Multiple Constants t s d r e w
 
   -- The measured length q is the image's and the length written, and measuring is refused with 6, 8, 9 or 10 exactly as writing is.
@@ -123,29 +119,29 @@ only_used_matter = rules.only_used_matter Multiple Constants
 
 -- The third figure of a refused reading is an octet of the slice, or its end. Where a value is wrong (3, 4), the field that the place names stands there, and
 -- what it holds is not what it must hold. 6 and 7 have 0.
-pub offset_inside : (s : List ℕ) (r : Reading) → r ≡ answered (read_leading s) → (x : Refusal) → r.answer ≡ Refused x → Points s x
+pub offset_inside : (s : List ℕ) (r : Reading) → r ≡ answered (read_leading s) → (x : Refusal) → r.answer ≡ Err x → Points s x
 offset_inside = rules.offset_inside Multiple
 
-pub whole_offset_inside : (s : List ℕ) (r : Reading) → r ≡ answered (read_whole s) → (x : Refusal) → r.answer ≡ Refused x → Points s x
+pub whole_offset_inside : (s : List ℕ) (r : Reading) → r ≡ answered (read_whole s) → (x : Refusal) → r.answer ≡ Err x → Points s x
 whole_offset_inside = rules.whole_offset_inside Multiple
 
-pub name_offset_inside : (s : List ℕ) (r : ShortNameRead) → short_told r ≡ seen short_at (read_short_name s) → (x : Refusal) → r ≡ Names.Not x → Points s x
+pub name_offset_inside : (s : List ℕ) (r : Result (NameComponent × ℕ) Refusal) → answer_of r ≡ seen short_at (read_short_name s) → (x : Refusal) → r ≡ Err x → Points s x
 name_offset_inside s r c x h = names.offset_inside s r c x h
 
 -- Nothing behind a wrong value is to blame: every slice of at least this length, up to 65,535, that agrees with this one up to the end of the field is refused
 -- with the very same refusal.
-pub blamed : (s : List ℕ) (r : Reading) → r ≡ answered (read_leading s) → (x : Refusal) → r.answer ≡ Refused x → Among x.number (3 ∷ 4 ∷ [])
-    → (s' : List ℕ) → Alike s s' x → (r' : Reading) → r' ≡ answered (read_leading s') → r'.answer ≡ Refused x
+pub blamed : (s : List ℕ) (r : Reading) → r ≡ answered (read_leading s) → (x : Refusal) → r.answer ≡ Err x → Among x.number (3 ∷ 4 ∷ [])
+    → (s' : List ℕ) → Alike s s' x → (r' : Reading) → r' ≡ answered (read_leading s') → r'.answer ≡ Err x
 blamed = rules.blamed Multiple
 
-pub whole_blamed : (s : List ℕ) (r : Reading) → r ≡ answered (read_whole s) → (x : Refusal) → r.answer ≡ Refused x → Among x.number (3 ∷ 4 ∷ [])
-    → (s' : List ℕ) → Alike s s' x → (r' : Reading) → r' ≡ answered (read_whole s') → r'.answer ≡ Refused x
+pub whole_blamed : (s : List ℕ) (r : Reading) → r ≡ answered (read_whole s) → (x : Refusal) → r.answer ≡ Err x → Among x.number (3 ∷ 4 ∷ [])
+    → (s' : List ℕ) → Alike s s' x → (r' : Reading) → r' ≡ answered (read_whole s') → r'.answer ≡ Err x
 whole_blamed = rules.whole_blamed Multiple
 
 -- ---- a reference cut short (document 02, No. 13), under each rule: here under rule 1, in `Rules` over the rule
 
 -- Of a slice s whose first n octets are accepted:
-module _ (s : List ℕ) (o : Octets s) (r : Reading) (c : r ≡ answered (read_leading s)) (n : ℕ) (h : r.answer ≡ Count n) where
+module _ (s : List ℕ) (o : Octets s) (r : Reading) (c : r ≡ answered (read_leading s)) (n : ℕ) (h : r.answer ≡ Ok n) where
   -- Every shorter leading piece of the part is refused, and only with 1 or 2: what a power cut leaves never passes for a reference.
   pub cut_short : (j : ℕ) → j < n → (q : Reading) → q ≡ answered (read_leading (take j s)) → CutShort q.answer
   cut_short = rules.cut_short Multiple s o r c n h
@@ -166,13 +162,13 @@ pub rules_agree : RulesAgree
 rules_agree = agreeing.rules_agree
 
 -- Under rule 2 no length of a type id is refused: 4 with place 33 isn't given in reading, and no 4 in writing.
-pub any_length_read : (s : List ℕ) (r : Reading) → r ≡ Reader.answered Gap (Reader.read_leading Gap s) → (x : Refusal) → r.answer ≡ Refused x → x.number ≡ 4 → x.place ≢ 33
+pub any_length_read : (s : List ℕ) (r : Reading) → r ≡ Reader.answered Gap (Reader.read_leading Gap s) → (x : Refusal) → r.answer ≡ Err x → x.number ≡ 4 → x.place ≢ 33
 any_length_read s r c x h = blame.any_length s x (rules.offset_inside Gap s r c x h)
 
-pub any_length_read_whole : (s : List ℕ) (r : Reading) → r ≡ Reader.answered Gap (Reader.read_whole Gap s) → (x : Refusal) → r.answer ≡ Refused x → x.number ≡ 4 → x.place ≢ 33
+pub any_length_read_whole : (s : List ℕ) (r : Reading) → r ≡ Reader.answered Gap (Reader.read_whole Gap s) → (x : Refusal) → r.answer ≡ Err x → x.number ≡ 4 → x.place ≢ 33
 any_length_read_whole s r c x h = blame.any_length s x (rules.whole_offset_inside Gap s r c x h)
 
-pub any_length_written : (way : AddressWay) (t : Tables) (s d : List ℕ) (r : Told) (e : List ℕ) → By.Writes Gap way t s d r e → (x : Refusal) → r ≡ Refused x → x.number ≢ 4
+pub any_length_written : (way : AddressWay) (t : Tables) (s d : List ℕ) (r : Told) (e : List ℕ) → By.Writes Gap way t s d r e → (x : Refusal) → r ≡ Err x → x.number ≢ 4
 any_length_written way t s d r e w x h = measuredly.any_length_written t s d x (sym w.answers ∙ h)
 
 -- P1 to P11 of document 01: each question of the table is answered as 01 says.
@@ -214,16 +210,16 @@ determined_write = rules.determined_write Multiple Constants
 pub determined_object_kind : (l : List ℕ) (r r' : ObjectKind) → r ≡ kind_of l → r' ≡ kind_of l → r ≡ r'
 determined_object_kind l r r' p q = p ∙ sym q
 
-pub determined_tap_numbers : (uses : ℕ) (l : List ℕ) (r r' : TapNumbers) → r ≡ tap_numbers_of uses l → r' ≡ tap_numbers_of uses l → r ≡ r'
+pub determined_tap_numbers : (uses : ℕ) (l : List ℕ) (r r' : Option TapNumbers) → r ≡ tap_numbers_of uses l → r' ≡ tap_numbers_of uses l → r ≡ r'
 determined_tap_numbers uses l r r' p q = p ∙ sym q
 
-pub determined_first_biop : (t : Tables) (r r' : FirstBiop) → r ≡ first_biop t → r' ≡ first_biop t → r ≡ r'
+pub determined_first_biop : (t : Tables) (r r' : Result (Option ℕ) Refusal) → r ≡ first_biop t → r' ≡ first_biop t → r ≡ r'
 determined_first_biop t r r' p q = p ∙ sym q
 
 pub determined_is_dvb : (a : List ℕ) (r r' : Bool) → r ≡ dvb_address a → r' ≡ dvb_address a → r ≡ r'
 determined_is_dvb a r r' p q = p ∙ sym q
 
-pub determined_read_short_name : (s : List ℕ) (r r' : ShortNameRead) → short_told r ≡ seen short_at (read_short_name s) → short_told r' ≡ seen short_at (read_short_name s) → r ≡ r'
+pub determined_read_short_name : (s : List ℕ) (r r' : Result (NameComponent × ℕ) Refusal) → answer_of r ≡ seen short_at (read_short_name s) → answer_of r' ≡ seen short_at (read_short_name s) → r ≡ r'
 determined_read_short_name s r r' p q = names.reading_determined s r r' p q
 
 pub determined_write_short_name : (n : NameComponent) (s d : List ℕ) (r r' : Told) (e e' : List ℕ) → Short.Writes n s d r e → Short.Writes n s d r' e' → (r ≡ r') × (e ≡ e')

@@ -1,6 +1,8 @@
 -- A lent table that is exact is measured and written as its tables are; any other is refused with 255, and the output stays. Assumes nothing.
 use Prim.Native.Nat.{ℕ}
-use mathlib.Core.Path.{◌≡◌, sym, ap, ap₂, ◌∙◌}
+use mathlib.Core.Path.{◌≡◌, refl, sym, ap, ap₂, subst, ◌∙◌}
+use Prim.Native.Nat.{◌≤◌}
+use lib.ListN.{length}
 use mathlib.Core.Bool.{Bool, true, false}
 use mathlib.Core.List.{List, [], ◌∷◌}
 use mathlib.Core.Logic.{◌↔◌, inl, inr}
@@ -8,8 +10,8 @@ use native.Mathlib.Omega.{arith}
 use Rattle.reference.specs.declared.TypeIdRule.{TypeIdRule}
 use Rattle.reference.specs.declared.AddressWay.{AddressWay}
 use Rattle.reference.specs.declared.AddressWay.TheVariants.{Constants}
-use Rattle.reference.specs.declared.Answer.{Answer as Told}
-use Rattle.reference.specs.declared.Answer.TheVariants.{Count, Refused}
+use Rattle.reference.specs.Refusals.{Told}
+use Rattle.std.specs.Prelude.{Ok, Err, IsErrAnd}
 use Rattle.reference.specs.declared.Refusal.{Refusal}
 use Rattle.reference.specs.Checks.{Among}
 use Rattle.reference.specs.Refusals.{refusal}
@@ -30,6 +32,16 @@ use Rattle.survey.proofs.Alike.{same_exact}
 use Rattle.survey.proofs.Read.{read_exact}
 use Rattle.reading.proofs.Lent.{Taken}
 use Rattle.writing.specs.Writes.{Writes}
+use Rattle.writing.proofs.Answers.{measure_refuses, refuses}
+use Rattle.reference.specs.declared.TypeIdRule.TheVariants.{Multiple}
+use Rattle.reference.specs.Writer.{size_of}
+use Rattle.reference.proofs.Steps.{passed_on}
+use Rattle.survey.specs.ByTable.{used_in}
+use Rattle.faults.specs.declared.Unsound.{Unsound}
+use Rattle.faults.specs.declared.Unsound.TheVariants.{NotExact, Refused}
+use Rattle.faults.specs.Judges.{Judges, Sounds, length_told}
+use Rattle.faults.proofs.Judging.{passed_limit, gap_measured, refused_measured}
+use Rattle.ior.specs.Judged.{refusal_for, SoundOr}
 use Rattle.ior.specs.Lent.{not_exact, measured_from, WritesFrom}
 
 module _ (rule : TypeIdRule) where
@@ -47,12 +59,31 @@ module _ (rule : TypeIdRule) where
     unfolding measured_from
     inexact_measured x = picks_second (exact t) (measured rule (tables_from t) s) not_exact x
 
+    -- by the length of a sound table under rule 1, or the refusal of one that is not
+    module _ {v : Told} (j : SoundOr rule t (length s) v) where
+      module _ {x : ℕ} (q : v ≡ Ok x) where
+        sound_says : Judges t (length s) (Ok x)
+        sound_says = subst (SoundOr rule t (length s)) q j
+
+        pub sound_fits : (x ≡ size_of Multiple (used_in t)) × (x ≤ 65535)
+        sound_fits = let (_, p, e) = sound_says in (e, passed_limit (tables_from t) (length s) p e)
+
+        pub sound_measured : {r : Told} → r ≡ length_told rule (used_in t) → r ≡ measured_from rule t s
+        sound_measured a = let (y, p, e) = sound_says in gap_measured rule (tables_from t) s p a ∙ sym (exact_measured y)
+
+      pub unsound_measured : {x : Refusal} → v ≡ Err x → (w : Told) → IsErrAnd w (λ y. y ≡ x) → w ≡ measured_from rule t s
+      unsound_measured q w p = let (u, e, k) = subst (SoundOr rule t (length s)) q j in passed_on w p ∙ ap Err e ∙ go u k
+        where
+          go : (u : Unsound) → Sounds rule t (length s) (Err u) → Err (refusal_for u) ≡ measured_from rule t s
+          go NotExact x = sym (inexact_measured x)
+          go (Refused y) k = refused_measured rule (tables_from t) s k.1 ∙ sym (exact_measured k.0)
+
   -- the table that an accepted reading left: no number is cut, and the part's length is measured
   module _ (s t e : List ℕ) (n : ℕ) (l : Lent t) (k : Taken rule s t e n) where
     pub taken_uncut : Uncut e
     taken_uncut = (exact_exactly e k.shows.long).0 (taken_exact s t e n l k)
 
-    pub taken_measured : measured_from rule e s ≡ Count n
+    pub taken_measured : measured_from rule e s ≡ Ok n
     taken_measured = exact_measured e s (taken_exact s t e n l k) ∙ (measuredly.length_is_written rule Constants (tables_from e) s s).length n (k.back Constants s k.leads.inside).0
 
 module _ (rule : TypeIdRule) (way : AddressWay) where
@@ -72,6 +103,19 @@ module _ (rule : TypeIdRule) (way : AddressWay) where
           leaves = sym (picks_second (exact t) (leaves rule way (tables_from t) s d) d x);
         }
 
+  module _ {t s : List ℕ} (d : List ℕ) {v : Told} (j : SoundOr rule t (length s) v) where
+    pub sound_writes : {x : ℕ} → v ≡ Ok x → {w : Told} {f : List ℕ} → Writes rule way (tables_from t) s d w f → WritesFrom rule way t s d w f
+    sound_writes q c = writes_exact (subst (SoundOr rule t (length s)) q j).0 c
+
+    pub unsound_writes : {x : Refusal} → v ≡ Err x → (w : Told) → IsErrAnd w (λ y. y ≡ x) → WritesFrom rule way t s d w d
+    unsound_writes q w p =
+        let (u, e, k) = subst (SoundOr rule t (length s)) q j in
+        subst (λ (z : Told). WritesFrom rule way t s d z d) (sym (passed_on w p ∙ ap Err e)) (go u k)
+      where
+        go : (u : Unsound) → Sounds rule t (length s) (Err u) → WritesFrom rule way t s d (Err (refusal_for u)) d
+        go NotExact x = refuses_inexact x refl
+        go (Refused y) k = writes_exact k.0 (refuses rule way (tables_from t) s d (measure_refuses rule (tables_from t) (length s) (length d) k.1))
+
   -- .. and what it says
   module _ (t s d : List ℕ) (w : Told) (f : List ℕ) (c : WritesFrom rule way t s d w f) where
     pub exact_writes : exact t ≡ true → Writes rule way (tables_from t) s d w f
@@ -85,11 +129,11 @@ module _ (rule : TypeIdRule) (way : AddressWay) where
     inexact_refused x = (c.answers ∙ picks_second (exact t) (written rule (tables_from t) s d) not_exact x, c.leaves ∙ picks_second (exact t) (leaves rule way (tables_from t) s d) d x)
 
     -- what is accepted is exact
-    pub accepted_writes : (n : ℕ) → w ≡ Count n → Writes rule way (tables_from t) s d w f
+    pub accepted_writes : (n : ℕ) → w ≡ Ok n → Writes rule way (tables_from t) s d w f
     accepted_writes n h =
         by_test (exact t) exact_writes (λ x. let q = sym h ∙ (inexact_refused x).0 in let z : ◌≡◌ {A = ℕ} 0 1 = cc in absurd (omega arith))
 
-    pub refused_leaves : (x : Refusal) → w ≡ Refused x → f ≡ d
+    pub refused_leaves : (x : Refusal) → w ≡ Err x → f ≡ d
     refused_leaves x h =
         by_test (exact t) (λ y. let v = exact_writes y in v.leaves ∙ measuredly.refused_writing_leaves_all rule way (tables_from t) s d x (sym v.answers ∙ h)) (λ y. (inexact_refused y).1)
 
@@ -121,7 +165,7 @@ module _ (rule : TypeIdRule) (way : AddressWay) where
             }
           where
             -- 255 is none of writing's numbers
-            late : (y : Refusal) → written rule (tables_from t) s d ≡ Refused y → Among y.number (255 ∷ 6 ∷ 8 ∷ 9 ∷ 10 ∷ []) → Among y.number (6 ∷ 8 ∷ 9 ∷ 10 ∷ [])
+            late : (y : Refusal) → written rule (tables_from t) s d ≡ Err y → Among y.number (255 ∷ 6 ∷ 8 ∷ 9 ∷ 10 ∷ []) → Among y.number (6 ∷ 8 ∷ 9 ∷ 10 ∷ [])
             late y e (inl k) = let n = (writing_number rule (tables_from t) s d y e).1 in absurd (omega arith)
             late y e (inr k) = k
 

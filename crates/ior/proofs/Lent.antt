@@ -9,8 +9,8 @@ use mathlib.Core.List.{List, [], ◌∷◌, ◌++◌}
 use mathlib.Core.Logic.{◌↔◌}
 use lib.ListN.{length, take, replicate}
 use Rattle.octets.specs.Octets.{Octets, Each, part, be}
-use Rattle.reference.specs.declared.Answer.{Answer as Told}
-use Rattle.reference.specs.declared.Answer.TheVariants.{Count, Refused}
+use Rattle.reference.specs.Refusals.{Told}
+use Rattle.std.specs.Prelude.{Ok, Err}
 use Rattle.reference.specs.declared.Refusal.{Refusal}
 use Rattle.reference.specs.Meaning.{Reference, Room}
 use Rattle.reference.specs.declared.TypeIdRule.TheVariants.{Multiple, Gap}
@@ -50,51 +50,51 @@ module _ (s : List ℕ) (o : Octets s) (t e : List ℕ) (lent : Lent t) (r : Tol
   -- DEMAND 3. A slice of up to 65,535 octets is accepted with n octets and the used entries u exactly when its first n octets are the layout of a
   -- well-formed meaning that fits the tables, and u are that meaning's.
   pub lent_accepts_exactly : length s ≤ 65535 → (n : ℕ) (u : Used)
-      → ((r ≡ Count n) × (used_of (tables_from e) ≡ u)) ↔ ((m : Reference) × (Leads s m n) × (u ≡ tables_of m))
+      → ((r ≡ Ok n) × (used_of (tables_from e) ≡ u)) ↔ ((m : Reference) × (Leads s m n) × (u ≡ tables_of m))
   lent_accepts_exactly = rules.lent_accepts_exactly Multiple s o t e lent r c
 
   -- The table of an accepted reading: each view shows the very octets of its field, at the offset where the field stands; the sums equal the used counts;
   -- the numbers of unused entries are as before.
-  pub lent_views_show_their_fields : (n : ℕ) → r ≡ Count n → (m : Reference) × (Leads s m n) × (ShowsInto s m t e)
+  pub lent_views_show_their_fields : (n : ℕ) → r ≡ Ok n → (m : Reference) × (Leads s m n) × (ShowsInto s m t e)
   lent_views_show_their_fields = rules.lent_views_show_their_fields Multiple s o t e lent r c
 
   -- DEMAND 1, first half: a refused reading leaves zeros, which tell the empty tables.
-  pub lent_refused_reading_is_empty : (x : Refusal) → r ≡ Refused x → (e ≡ replicate table_size 0) × (tables_from e ≡ no_tables)
+  pub lent_refused_reading_is_empty : (x : Refusal) → r ≡ Err x → (e ≡ replicate table_size 0) × (tables_from e ≡ no_tables)
   lent_refused_reading_is_empty = rules.lent_refused_reading_is_empty Multiple s o t e lent r c
 
   -- Where it broke: the third figure points into the slice, a wrong value stands where it points, and nothing behind that is to blame.
-  pub lent_offset_inside : (x : Refusal) → r ≡ Refused x → Points s x
+  pub lent_offset_inside : (x : Refusal) → r ≡ Err x → Points s x
   lent_offset_inside = rules.lent_offset_inside Multiple s o t e lent r c
 
-  pub lent_blamed : (x : Refusal) → r ≡ Refused x → Among x.number (3 ∷ 4 ∷ [])
-      → (s' : List ℕ) → Alike s s' x → (t' e' : List ℕ) (r' : Told) → ReadInto (read_leading s') t' e' r' → r' ≡ Refused x
+  pub lent_blamed : (x : Refusal) → r ≡ Err x → Among x.number (3 ∷ 4 ∷ [])
+      → (s' : List ℕ) → Alike s s' x → (t' e' : List ℕ) (r' : Told) → ReadInto (read_leading s') t' e' r' → r' ≡ Err x
   lent_blamed = rules.lent_blamed Multiple s o t e lent r c
 
   -- A reference cut short (document 02, No. 13): every shorter leading piece of an accepted part is refused, and only with 1 or 2; so it is where it is read
   -- as a whole slice.
-  pub lent_cut_short : (n : ℕ) → r ≡ Count n → (j : ℕ) → j < n → (t' e' : List ℕ) (r' : Told) → ReadInto (read_leading (take j s)) t' e' r' → CutShort r'
+  pub lent_cut_short : (n : ℕ) → r ≡ Ok n → (j : ℕ) → j < n → (t' e' : List ℕ) (r' : Told) → ReadInto (read_leading (take j s)) t' e' r' → CutShort r'
   lent_cut_short = rules.lent_cut_short Multiple s o t e lent r c
 
-  pub lent_whole_cut_short : (n : ℕ) → r ≡ Count n → (j : ℕ) → j < n → (t' e' : List ℕ) (r' : Told) → ReadInto (read_whole (take j s)) t' e' r' → CutShort r'
+  pub lent_whole_cut_short : (n : ℕ) → r ≡ Ok n → (j : ℕ) → j < n → (t' e' : List ℕ) (r' : Told) → ReadInto (read_whole (take j s)) t' e' r' → CutShort r'
   lent_whole_cut_short = rules.lent_whole_cut_short Multiple s o t e lent r c
 
   -- Octets x put behind the part, up to 65,535 in all, change neither the consumed length nor what the table tells; a table that held the same before holds
   -- the same then.
-  pub lent_behind : (n : ℕ) → r ≡ Count n → (x : List ℕ) → Octets x → n + length x ≤ 65535 → (t' e' : List ℕ) (r' : Told) → Lent t' → ReadInto (read_leading (take n s ++ x)) t' e' r'
+  pub lent_behind : (n : ℕ) → r ≡ Ok n → (x : List ℕ) → Octets x → n + length x ≤ 65535 → (t' e' : List ℕ) (r' : Told) → Lent t' → ReadInto (read_leading (take n s ++ x)) t' e' r'
       → (r' ≡ r) × (SameUsed (tables_from e') (tables_from e)) × (t' ≡ t → e' ≡ e)
   lent_behind = rules.lent_behind Multiple s o t e lent r c
 
   -- No number of the table that an accepted reading left is cut, and measuring it over the same octets tells the part's length.
-  pub lent_read_is_uncut : (n : ℕ) → r ≡ Count n → Uncut e
+  pub lent_read_is_uncut : (n : ℕ) → r ≡ Ok n → Uncut e
   lent_read_is_uncut = rules.lent_read_is_uncut Multiple s o t e lent r c
 
-  pub lent_length_is_read : (n : ℕ) → r ≡ Count n → (q : Told) → q ≡ measured_from e s → q ≡ Count n
+  pub lent_length_is_read : (n : ℕ) → r ≡ Ok n → (q : Told) → q ≡ measured_from e s → q ≡ Ok n
   lent_length_is_read = rules.lent_length_is_read Multiple s o t e lent r c
 
   -- Writing from the table that an accepted reading left, over the same octets, into any output with room, answers the part's length and gives the part
   -- back: at every index but the seven constants of each address the octets are equal, and behind the part the output is as before.
-  pub lent_write_gives_back : (n : ℕ) → r ≡ Count n → (d : List ℕ) (w : Told) (f : List ℕ) → WritesFrom e s d w f → n ≤ length d
-      → (m : Reference) × (Leads s m n) × (w ≡ Count n) × (GivesBack s m n d f)
+  pub lent_write_gives_back : (n : ℕ) → r ≡ Ok n → (d : List ℕ) (w : Told) (f : List ℕ) → WritesFrom e s d w f → n ≤ length d
+      → (m : Reference) × (Leads s m n) × (w ≡ Ok n) × (GivesBack s m n d f)
   lent_write_gives_back = rules.lent_write_gives_back Multiple s o t e lent r c Constants
 
 -- ---- read_whole_into
@@ -102,28 +102,28 @@ module _ (s : List ℕ) (o : Octets s) (t e : List ℕ) (lent : Lent t) (r : Tol
 module _ (s : List ℕ) (o : Octets s) (t e : List ℕ) (lent : Lent t) (r : Told) (c : ReadInto (read_whole s) t e r) where
   -- The same of a whole slice, with n its length.
   pub lent_accepts_whole_exactly : length s ≤ 65535 → (n : ℕ) (u : Used)
-      → ((r ≡ Count n) × (used_of (tables_from e) ≡ u)) ↔ ((m : Reference) × (Leads s m n) × (n ≡ length s) × (u ≡ tables_of m))
+      → ((r ≡ Ok n) × (used_of (tables_from e) ≡ u)) ↔ ((m : Reference) × (Leads s m n) × (n ≡ length s) × (u ≡ tables_of m))
   lent_accepts_whole_exactly = rules.lent_accepts_whole_exactly Multiple s o t e lent r c
 
   -- What it accepts, the leading reading accepts with the same answer and table: what is promised of one holds of the other.
-  pub lent_whole_is_leading : (n : ℕ) → r ≡ Count n → (ReadInto (read_leading s) t e r) × (n ≡ length s)
+  pub lent_whole_is_leading : (n : ℕ) → r ≡ Ok n → (ReadInto (read_leading s) t e r) × (n ≡ length s)
   lent_whole_is_leading = rules.lent_whole_is_leading Multiple s o t e lent r c
 
-  pub lent_refused_whole_is_empty : (x : Refusal) → r ≡ Refused x → (e ≡ replicate table_size 0) × (tables_from e ≡ no_tables)
+  pub lent_refused_whole_is_empty : (x : Refusal) → r ≡ Err x → (e ≡ replicate table_size 0) × (tables_from e ≡ no_tables)
   lent_refused_whole_is_empty = rules.lent_refused_whole_is_empty Multiple s o t e lent r c
 
-  pub lent_whole_offset_inside : (x : Refusal) → r ≡ Refused x → Points s x
+  pub lent_whole_offset_inside : (x : Refusal) → r ≡ Err x → Points s x
   lent_whole_offset_inside = rules.lent_whole_offset_inside Multiple s o t e lent r c
 
-  pub lent_whole_blamed : (x : Refusal) → r ≡ Refused x → Among x.number (3 ∷ 4 ∷ [])
-      → (s' : List ℕ) → Alike s s' x → (t' e' : List ℕ) (r' : Told) → ReadInto (read_whole s') t' e' r' → r' ≡ Refused x
+  pub lent_whole_blamed : (x : Refusal) → r ≡ Err x → Among x.number (3 ∷ 4 ∷ [])
+      → (s' : List ℕ) → Alike s s' x → (t' e' : List ℕ) (r' : Told) → ReadInto (read_whole s') t' e' r' → r' ≡ Err x
   lent_whole_blamed = rules.lent_whole_blamed Multiple s o t e lent r c
 
 -- ---- write_from and length_from: t is any table of u32, read or made by the caller
 
 module _ (t s d : List ℕ) (w : Told) (f : List ℕ) (c : WritesFrom t s d w f) where
   -- DEMAND 1, second half: a refused writing changes no octet.
-  pub lent_refused_writing_leaves_all : (x : Refusal) → w ≡ Refused x → f ≡ d
+  pub lent_refused_writing_leaves_all : (x : Refusal) → w ≡ Err x → f ≡ d
   lent_refused_writing_leaves_all = rules.lent_refused_writing_leaves_all Multiple Constants t s d w f c
 
   -- No number is cut: a table is refused with 255 exactly if some used entry would not be told as it stands.
@@ -131,17 +131,17 @@ module _ (t s d : List ℕ) (w : Told) (f : List ℕ) (c : WritesFrom t s d w f)
   lent_cuts_no_number = rules.lent_cuts_no_number Multiple Constants t s d w f c
 
   -- An accepted one puts the image at the front, as long as it answers, and leaves the octets behind it.
-  pub lent_accepted_writing_puts : (n : ℕ) → w ≡ Count n → PutInFront (image_of s (tables_from t)) d n f
+  pub lent_accepted_writing_puts : (n : ℕ) → w ≡ Ok n → PutInFront (image_of s (tables_from t)) d n f
   lent_accepted_writing_puts = rules.lent_accepted_writing_puts Multiple Constants t s d w f c
 
   -- DEMAND 3, the other way: what the writer accepts, with no opaque profile under a known tag, is read back from the output itself, into any lent
   -- table, with equal contents.
-  pub lent_written_reads_back : Octets s → Octets d → length d ≤ 65535 → Words t → Each Unknown (used_of (tables_from t)).profiles → (n : ℕ) → w ≡ Count n
+  pub lent_written_reads_back : Octets s → Octets d → length d ≤ 65535 → Words t → Each Unknown (used_of (tables_from t)).profiles → (n : ℕ) → w ≡ Ok n
       → (t' e' : List ℕ) (r' : Told) → Lent t' → ReadInto (read_leading f) t' e' r' → ReadsBack (tables_from t) s n f (record { answer = r'; tables = tables_from e' })
   lent_written_reads_back = rules.lent_written_reads_back Multiple Constants t s d w f c
 
   -- The n octets that were written, read as a whole slice: the same, whatever the output's length.
-  pub lent_image_reads_back : Octets s → Words t → Each Unknown (used_of (tables_from t)).profiles → (n : ℕ) → w ≡ Count n
+  pub lent_image_reads_back : Octets s → Words t → Each Unknown (used_of (tables_from t)).profiles → (n : ℕ) → w ≡ Ok n
       → (t' e' : List ℕ) (r' : Told) → Lent t' → ReadInto (read_whole (take n f)) t' e' r'
       → ReadsBack (tables_from t) s n (take n f) (record { answer = r'; tables = tables_from e' })
   lent_image_reads_back = rules.lent_image_reads_back Multiple Constants t s d w f c

@@ -8,8 +8,8 @@ use lib.ListN.{length, take, replicate}
 use Rattle.reference.specs.declared.TypeIdRule.{TypeIdRule}
 use Rattle.reference.specs.declared.AddressWay.{AddressWay}
 use Rattle.octets.specs.Octets.{Octets, Each}
-use Rattle.reference.specs.declared.Answer.{Answer as Told}
-use Rattle.reference.specs.declared.Answer.TheVariants.{Count, Refused}
+use Rattle.reference.specs.Refusals.{Told}
+use Rattle.std.specs.Prelude.{Ok, Err}
 use Rattle.reference.specs.declared.Refusal.{Refusal}
 use Rattle.reference.specs.Meaning.{Reference, Room}
 use Rattle.reference.specs.Layout.{WellFormed, Leads}
@@ -47,33 +47,33 @@ module _ (rule : TypeIdRule) where
 module _ (rule : TypeIdRule) where
   module _ (s : List ℕ) (o : Octets s) (t e : List ℕ) (lent : Lent t) (r : Told) (c : ReadInto rule (read_leading rule s) t e r) where
     pub lent_accepts_exactly : length s ≤ 65535 → (n : ℕ) (u : Used)
-        → ((r ≡ Count n) × (used_of (tables_from e) ≡ u)) ↔ ((m : Reference) × (Leads rule s m n) × (u ≡ tables_of rule m))
+        → ((r ≡ Ok n) × (used_of (tables_from e) ≡ u)) ↔ ((m : Reference) × (Leads rule s m n) × (u ≡ tables_of rule m))
     lent_accepts_exactly small n u =
         let x = reading.into_exactly rule (read_leading rule s) t e r c lent (leading_good rule s o) n u in (
           λ h. let (m, q, p) = x.0 h in (m, (exactly rule s o small m n).0 q, p),
           λ h. x.1 (h.0, (exactly rule s o small h.0 n).1 h.1, h.2),
         )
 
-    pub lent_views_show_their_fields : (n : ℕ) → r ≡ Count n → (m : Reference) × (Leads rule s m n) × (ShowsInto rule s m t e)
+    pub lent_views_show_their_fields : (n : ℕ) → r ≡ Ok n → (m : Reference) × (Leads rule s m n) × (ShowsInto rule s m t e)
     lent_views_show_their_fields n h = let k = reading.leading_taken rule s o t e lent r n h c in (k.meaning, k.leads, k.shows)
 
-    pub lent_refused_reading_is_empty : (x : Refusal) → r ≡ Refused x → (e ≡ replicate table_size 0) × (tables_from e ≡ no_tables)
+    pub lent_refused_reading_is_empty : (x : Refusal) → r ≡ Err x → (e ≡ replicate table_size 0) × (tables_from e ≡ no_tables)
     lent_refused_reading_is_empty x h = reading.into_refused rule (read_leading rule s) t e r c x h
 
-    pub lent_offset_inside : (x : Refusal) → r ≡ Refused x → Points rule s x
+    pub lent_offset_inside : (x : Refusal) → r ≡ Err x → Points rule s x
     lent_offset_inside x h = promised.offset_inside rule s x (sym c.answers ∙ h)
 
-    pub lent_blamed : (x : Refusal) → r ≡ Refused x → Among x.number (3 ∷ 4 ∷ [])
-        → (s' : List ℕ) → Alike rule s s' x → (t' e' : List ℕ) (r' : Told) → ReadInto rule (read_leading rule s') t' e' r' → r' ≡ Refused x
+    pub lent_blamed : (x : Refusal) → r ≡ Err x → Among x.number (3 ∷ 4 ∷ [])
+        → (s' : List ℕ) → Alike rule s s' x → (t' e' : List ℕ) (r' : Told) → ReadInto rule (read_leading rule s') t' e' r' → r' ≡ Err x
     lent_blamed x h a s' l t' e' r' c' = c'.answers ∙ promised.blamed rule s s' x (sym c.answers ∙ h) a l
 
-    pub lent_cut_short : (n : ℕ) → r ≡ Count n → (j : ℕ) → j < n → (t' e' : List ℕ) (r' : Told) → ReadInto rule (read_leading rule (take j s)) t' e' r' → CutShort r'
+    pub lent_cut_short : (n : ℕ) → r ≡ Ok n → (j : ℕ) → j < n → (t' e' : List ℕ) (r' : Told) → ReadInto rule (read_leading rule (take j s)) t' e' r' → CutShort r'
     lent_cut_short n h j lt t' e' r' c' = subst CutShort (sym c'.answers) (promised.cut_short rule s o n (sym c.answers ∙ h) j lt)
 
-    pub lent_whole_cut_short : (n : ℕ) → r ≡ Count n → (j : ℕ) → j < n → (t' e' : List ℕ) (r' : Told) → ReadInto rule (read_whole rule (take j s)) t' e' r' → CutShort r'
+    pub lent_whole_cut_short : (n : ℕ) → r ≡ Ok n → (j : ℕ) → j < n → (t' e' : List ℕ) (r' : Told) → ReadInto rule (read_whole rule (take j s)) t' e' r' → CutShort r'
     lent_whole_cut_short n h j lt t' e' r' c' = subst CutShort (sym c'.answers) (promised.whole_cut_short rule s o n (sym c.answers ∙ h) j lt)
 
-    pub lent_behind : (n : ℕ) → r ≡ Count n → (x : List ℕ) → Octets x → n + length x ≤ 65535 → (t' e' : List ℕ) (r' : Told) → Lent t' → ReadInto rule (read_leading rule (take n s ++ x)) t' e' r'
+    pub lent_behind : (n : ℕ) → r ≡ Ok n → (x : List ℕ) → Octets x → n + length x ≤ 65535 → (t' e' : List ℕ) (r' : Told) → Lent t' → ReadInto rule (read_leading rule (take n s ++ x)) t' e' r'
         → (r' ≡ r) × (SameUsed (tables_from e') (tables_from e)) × (t' ≡ t → e' ≡ e)
     lent_behind n h x ox small t' e' r' l c' =
         let i : ReadInto rule (read_leading rule s) t' e' r' = subst (λ (y : Answer Reference). ReadInto rule y t' e' r') (promised.behind rule s x o ox n (sym c.answers ∙ h) small) c' in
@@ -83,14 +83,14 @@ module _ (rule : TypeIdRule) where
           λ q. i.leaves ∙ ap (λ (y : List ℕ). table_left rule (read_leading rule s) y) q ∙ sym c.leaves,
         )
 
-    pub lent_read_is_uncut : (n : ℕ) → r ≡ Count n → Uncut e
+    pub lent_read_is_uncut : (n : ℕ) → r ≡ Ok n → Uncut e
     lent_read_is_uncut n h = guarded.taken_uncut rule s t e n lent (reading.leading_taken rule s o t e lent r n h c)
 
-    pub lent_length_is_read : (n : ℕ) → r ≡ Count n → (q : Told) → q ≡ measured_from rule e s → q ≡ Count n
+    pub lent_length_is_read : (n : ℕ) → r ≡ Ok n → (q : Told) → q ≡ measured_from rule e s → q ≡ Ok n
     lent_length_is_read n h q x = x ∙ guarded.taken_measured rule s t e n lent (reading.leading_taken rule s o t e lent r n h c)
 
-    pub lent_write_gives_back : (way : AddressWay) (n : ℕ) → r ≡ Count n → (d : List ℕ) (w : Told) (f : List ℕ) → WritesFrom rule way e s d w f → n ≤ length d
-        → (m : Reference) × (Leads rule s m n) × (w ≡ Count n) × (GivesBack rule way s m n d f)
+    pub lent_write_gives_back : (way : AddressWay) (n : ℕ) → r ≡ Ok n → (d : List ℕ) (w : Told) (f : List ℕ) → WritesFrom rule way e s d w f → n ≤ length d
+        → (m : Reference) × (Leads rule s m n) × (w ≡ Ok n) × (GivesBack rule way s m n d f)
     lent_write_gives_back way n h d w f x room =
         let k = reading.leading_taken rule s o t e lent r n h c in
         let (a, g) = k.back way d room in
@@ -100,38 +100,38 @@ module _ (rule : TypeIdRule) where
 module _ (rule : TypeIdRule) where
   module _ (s : List ℕ) (o : Octets s) (t e : List ℕ) (lent : Lent t) (r : Told) (c : ReadInto rule (read_whole rule s) t e r) where
     pub lent_accepts_whole_exactly : length s ≤ 65535 → (n : ℕ) (u : Used)
-        → ((r ≡ Count n) × (used_of (tables_from e) ≡ u)) ↔ ((m : Reference) × (Leads rule s m n) × (n ≡ length s) × (u ≡ tables_of rule m))
+        → ((r ≡ Ok n) × (used_of (tables_from e) ≡ u)) ↔ ((m : Reference) × (Leads rule s m n) × (n ≡ length s) × (u ≡ tables_of rule m))
     lent_accepts_whole_exactly small n u =
         let x = reading.into_exactly rule (read_whole rule s) t e r c lent (whole_good rule s o) n u in (
           λ h. let (m, q, p) = x.0 h in let w = (whole rule s o small m n).0 q in (m, w.0, w.1, p),
           λ h. x.1 (h.0, (whole rule s o small h.0 n).1 (h.1, h.2), h.3),
         )
 
-    pub lent_whole_is_leading : (n : ℕ) → r ≡ Count n → (ReadInto rule (read_leading rule s) t e r) × (n ≡ length s)
+    pub lent_whole_is_leading : (n : ℕ) → r ≡ Ok n → (ReadInto rule (read_leading rule s) t e r) × (n ≡ length s)
     lent_whole_is_leading n h = reading.whole_into rule s o t e r n h c
 
-    pub lent_refused_whole_is_empty : (x : Refusal) → r ≡ Refused x → (e ≡ replicate table_size 0) × (tables_from e ≡ no_tables)
+    pub lent_refused_whole_is_empty : (x : Refusal) → r ≡ Err x → (e ≡ replicate table_size 0) × (tables_from e ≡ no_tables)
     lent_refused_whole_is_empty x h = reading.into_refused rule (read_whole rule s) t e r c x h
 
-    pub lent_whole_offset_inside : (x : Refusal) → r ≡ Refused x → Points rule s x
+    pub lent_whole_offset_inside : (x : Refusal) → r ≡ Err x → Points rule s x
     lent_whole_offset_inside x h = promised.whole_offset_inside rule s x (sym c.answers ∙ h)
 
-    pub lent_whole_blamed : (x : Refusal) → r ≡ Refused x → Among x.number (3 ∷ 4 ∷ [])
-        → (s' : List ℕ) → Alike rule s s' x → (t' e' : List ℕ) (r' : Told) → ReadInto rule (read_whole rule s') t' e' r' → r' ≡ Refused x
+    pub lent_whole_blamed : (x : Refusal) → r ≡ Err x → Among x.number (3 ∷ 4 ∷ [])
+        → (s' : List ℕ) → Alike rule s s' x → (t' e' : List ℕ) (r' : Told) → ReadInto rule (read_whole rule s') t' e' r' → r' ≡ Err x
     lent_whole_blamed x h a s' l t' e' r' c' = c'.answers ∙ promised.whole_blamed rule s s' x (sym c.answers ∙ h) a l
 
 module _ (rule : TypeIdRule) (way : AddressWay) where
   module _ (t s d : List ℕ) (w : Told) (f : List ℕ) (c : WritesFrom rule way t s d w f) where
-    pub lent_refused_writing_leaves_all : (x : Refusal) → w ≡ Refused x → f ≡ d
+    pub lent_refused_writing_leaves_all : (x : Refusal) → w ≡ Err x → f ≡ d
     lent_refused_writing_leaves_all x h = guarded.refused_leaves rule way t s d w f c x h
 
     pub lent_cuts_no_number : Lent t → (w ≡ not_exact) ↔ (Uncut t → ⊥)
     lent_cuts_no_number l = guarded.writing_cuts_nothing rule way t s d w f c l
 
-    pub lent_accepted_writing_puts : (n : ℕ) → w ≡ Count n → PutInFront (image_of rule way s (tables_from t)) d n f
+    pub lent_accepted_writing_puts : (n : ℕ) → w ≡ Ok n → PutInFront (image_of rule way s (tables_from t)) d n f
     lent_accepted_writing_puts n h = rules.accepted_writing_puts rule way (tables_from t) s d w f (guarded.accepted_writes rule way t s d w f c n h) n h
 
-    pub lent_written_reads_back : Octets s → Octets d → length d ≤ 65535 → Words t → Each Unknown (used_of (tables_from t)).profiles → (n : ℕ) → w ≡ Count n
+    pub lent_written_reads_back : Octets s → Octets d → length d ≤ 65535 → Words t → Each Unknown (used_of (tables_from t)).profiles → (n : ℕ) → w ≡ Ok n
         → (t' e' : List ℕ) (r' : Told) → Lent t' → ReadInto rule (read_leading rule f) t' e' r' → ReadsBack way (tables_from t) s n f (record { answer = r'; tables = tables_from e' })
     lent_written_reads_back o od small y u n h t' e' r' l c' =
         let typed = told_typed t y in
@@ -139,7 +139,7 @@ module _ (rule : TypeIdRule) (way : AddressWay) where
         let of : Octets f = subst Octets (sym x.leaves) (output_octets rule way (tables_from t) s d o od typed n (sym x.answers ∙ h)) in
         reading.lent_read_back rule way (read_leading rule f) (leading_good rule f of) (tables_from t) s n f (rules.written_reads_back rule way (tables_from t) s d w f x o od small typed u n h _ refl) t' e' r' l c'
 
-    pub lent_image_reads_back : Octets s → Words t → Each Unknown (used_of (tables_from t)).profiles → (n : ℕ) → w ≡ Count n
+    pub lent_image_reads_back : Octets s → Words t → Each Unknown (used_of (tables_from t)).profiles → (n : ℕ) → w ≡ Ok n
         → (t' e' : List ℕ) (r' : Told) → Lent t' → ReadInto rule (read_whole rule (take n f)) t' e' r'
         → ReadsBack way (tables_from t) s n (take n f) (record { answer = r'; tables = tables_from e' })
     lent_image_reads_back o y u n h t' e' r' l c' =

@@ -1,11 +1,9 @@
 -- What measuring and writing from a lent table answer: of an exact table what its tables give; of one that holds a number wider than its field, or an
 -- unknown sort, 255, and the output stays. Assumes nothing.
-use Rattle.std.specs.Prelude.{ℕ, ◌≡◌, List}
+use Rattle.std.specs.Prelude.{ℕ, ◌≡◌, List, Err}
 use Rattle.reference.specs.declared.TypeIdRule.{TypeIdRule}
 use Rattle.reference.specs.declared.AddressWay.{AddressWay}
-use Rattle.reference.specs.declared.Answer.{Answer as Told}
-use Rattle.reference.specs.declared.Answer.TheVariants.{Refused}
-use Rattle.reference.specs.Refusals.{refusal}
+use Rattle.reference.specs.Refusals.{Told, refusal}
 use Rattle.reference.specs.Steps.{pick}
 use Rattle.reference.specs.Writer.{measured, written}
 use Rattle.reference.specs.Writer as Writer
@@ -14,7 +12,7 @@ use Rattle.survey.specs.Exact.{exact}
 
 -- a table that is not exact
 abbrev pub not_exact : Told
-not_exact = Refused (refusal 255 0 0 0)
+not_exact = Err (refusal 255 0 0 0)
 
 -- length_from_by(table, src, rule), of the table t over the source s
 unfoldable pub measured_from : TypeIdRule → (t s : List ℕ) → Told

@@ -3,7 +3,7 @@
 use Rattle.std.specs.Prelude.{ℕ, List}
 use Rattle.reference.specs.declared.TypeIdRule.TheVariants.{Multiple}
 use Rattle.reference.specs.declared.AddressWay.TheVariants.{Constants}
-use Rattle.reference.specs.declared.Answer.{Answer as Told}
+use Rattle.reference.specs.Refusals.{Told}
 use Rattle.ior.specs.Lent as Lent
 
 abbrev pub measured_from : (t s : List ℕ) → Told

@@ -5,7 +5,7 @@
 #![tactic(auto)]
 
 ghost use Rattle.std.specs.Prelude.{◌≡◌};
-ghost use Rattle.reference.specs.Steps.{seen};
+ghost use Rattle.reference.specs.Steps.{answer_of, seen};
 ghost use Rattle.reference.specs.Today.{read_leading, read_whole, answered, measured};
 ghost use Rattle.reference.specs.Reader as Reader;
 ghost use Rattle.reference.specs.Writer as Writer;
@@ -15,25 +15,23 @@ ghost use Rattle.reading.specs.Into as Into;
 ghost use Rattle.reading.specs.Today.{ReadInto};
 ghost use Rattle.writing.specs.Writes as By;
 ghost use Rattle.writing.specs.Today.{Writes};
-ghost use Rattle.names.specs.Told.{short_told};
 ghost use Rattle.names.specs.Writes as Short;
 ghost use Rattle.ior.specs.Lent as Lent;
+ghost use Rattle.ior.specs.Judged.{SoundOr};
 ghost use Rattle.ior.specs.Today.{measured_from, WritesFrom};
 
-use faults::{Judged, judge, refusal_of, with_gap};
-use names::ShortNameRead;
+use faults::{Unsound, sound_length, with_gap};
 use reference::{
-    AddressWay, Answer, FirstBiop, NameComponent, ObjectKind, Reading, Tables, TapNumbers,
+    AddressWay, Answer, NameComponent, ObjectKind, Reading, Refusal, Tables, TapNumbers,
     TypeIdRule, wrong,
 };
-use survey::BOUND;
 use table::SIZE;
 use writing::write_sound;
 
 // A table of 490 numbers; crate table says which number is what.
 pub const TABLE: usize = SIZE;
 
-pub type FlatTable = [u32; TABLE];
+pub use table::FlatTable;
 
 // The number that measuring and writing refuse a lent table with in which a number would be cut.
 pub const NOT_EXACT: u8 = 255;
@@ -146,15 +144,8 @@ pub fn write_by(t: Tables, src: &[u8], out: &mut [u8], rule: TypeIdRule, way: Ad
 pub fn length_from_by(table: &FlatTable, src: &[u8], rule: TypeIdRule) -> Answer
     ensures { result ≡ Lent.measured_from rule table.now src.now }
 {
-    match judge(table, src.len()) {
-        Judged::Sound(total) => with_gap(table, total, rule),
-        Judged::Unsound(found) => {
-            if BOUND <= found.fields {
-                return Answer::Refused(wrong(NOT_EXACT, 0));
-            }
-            Answer::Refused(refusal_of(found, table, src.len(), rule))
-        }
-    }
+    let total = sound(table, src.len(), rule)?;
+    with_gap(table, total, rule)
 }
 
 pub fn write_from_by(
@@ -166,14 +157,18 @@ pub fn write_from_by(
 ) -> Answer
     ensures { Lent.WritesFrom rule way table.now src.now out.old result out.new }
 {
-    match judge(table, src.len()) {
-        Judged::Sound(total) => write_sound(table, src, out, total, rule, way),
-        Judged::Unsound(found) => {
-            if BOUND <= found.fields {
-                return Answer::Refused(wrong(NOT_EXACT, 0));
-            }
-            Answer::Refused(refusal_of(found, table, src.len(), rule))
-        }
+    let total = sound(table, src.len(), rule)?;
+    write_sound(table, src, out, total, rule, way)
+}
+
+// The length that rule 1 measures of a sound table over a source of n octets; or the refusal under the rule: a number that would be cut has one of its own.
+fn sound(table: &FlatTable, n: usize, rule: TypeIdRule) -> Answer
+    ensures { SoundOr rule table.now n result }
+{
+    match sound_length(table, n, rule) {
+        Ok(total) => Ok(total),
+        Err(Unsound::NotExact) => Err(wrong(NOT_EXACT, 0)),
+        Err(Unsound::Refused(why)) => Err(why),
     }
 }
 
@@ -187,14 +182,14 @@ pub fn object_kind(type_id: &[u8]) -> ObjectKind
 }
 
 // A tap's transaction id and timeout, of its use and its selector's octets: both or neither; never refused.
-pub fn tap_numbers(use_: u16, selector: &[u8]) -> TapNumbers
+pub fn tap_numbers(use_: u16, selector: &[u8]) -> Option<TapNumbers>
     ensures { result ≡ tap_numbers_of use_ selector.now }
 {
     questions::tap_numbers(use_, selector)
 }
 
 // The index of the first BIOP profile, or none; 8 with place 40 if more than 8 profiles are used.
-pub fn first_biop(t: Tables) -> FirstBiop
+pub fn first_biop(t: Tables) -> Result<Option<usize>, Refusal>
     ensures { result ≡ first_biop t }
 {
     questions::first_biop(t)
@@ -211,8 +206,8 @@ pub fn is_dvb(a: AddressOctets) -> bool
 // ---- the name component with lengths of one octet
 
 // Reads it from the start of `s`: its views and how many octets it has. Refuses with 6, 1 (places 26 and 27) and 2.
-pub fn read_short_name(s: &[u8]) -> ShortNameRead
-    ensures { short_told result ≡ seen short_at (read_short_name s.now) }
+pub fn read_short_name(s: &[u8]) -> Result<(NameComponent, usize), Refusal>
+    ensures { answer_of result ≡ seen short_at (read_short_name s.now) }
 {
     names::read_short_name(s)
 }

@@ -17,7 +17,7 @@ use Rattle.reference.specs.Standard.{canon}
 use Rattle.reference.specs.Tabled.{tabled, used_of}
 use Rattle.reference.specs.Writer.{leaves}
 use Rattle.reference.specs.Promises.{GivesBack, SameUsed}
-use Rattle.reference.specs.declared.Answer.TheVariants.{Count}
+use Rattle.std.specs.Prelude.{Ok}
 use Rattle.reference.proofs.Accept.{whole, unique}
 use Rattle.reference.proofs.Back.{tables_canon}
 use Rattle.reference.proofs.Saying.{same_said}
@@ -32,12 +32,12 @@ use Rattle.ior_c.proofs.Writings.{left_written}
 module _ (rule : TypeIdRule) where
   -- a reading of s that answered 0
   module _ (s : List ℕ) (o : Octets s) (x : Read rule s) where
-    read_told : x.result ≡ 0 → (x.told ≡ numbers_of (Count (length s))) × (Taken rule s x.table x.left (length s))
+    read_told : x.result ≡ 0 → (x.told ≡ numbers_of (Ok (length s))) × (Taken rule s x.table x.left (length s))
     read_told z =
         let (c, n) = whole_is_leading rule s o x.table x.answer x.result x.told x.left x.call z in
         let k = read_zero rule (read_leading rule s) (leading rule s) x.table x.answer x.result x.told x.left c z in
         let q : k.count ≡ length s = sym (ap (λ (v : List ℕ). get_or v 4 0) k.told) ∙ n in
-        (k.told ∙ ap (λ (i : ℕ). numbers_of (Count i)) q, leading_taken rule s o x.table x.left x.lent (Count k.count) (length s) (ap Count q) k.into)
+        (k.told ∙ ap (λ (i : ℕ). numbers_of (Ok i)) q, leading_taken rule s o x.table x.left x.lent (Ok k.count) (length s) (ap Ok q) k.into)
 
     -- it answers 0 where the definition accepts
     read_accepts : (m : Reference) (n : ℕ) → read_whole rule s ≡ ok m n → x.result ≡ 0
@@ -88,7 +88,7 @@ module _ (rule : TypeIdRule) (way : AddressWay) where
           equal = same_taken rule s o k₁ k₂;
           copied = (z₃, told₃ ∙ sym told₁);
           back = subst (λ (x : Reference). GivesBack rule way s x n w.output w.left) same back;
-          after = (z₄, told₄ ∙ ap (λ (i : ℕ). numbers_of (Count i)) long ∙ sym told₁);
+          after = (z₄, told₄ ∙ ap (λ (i : ℕ). numbers_of (Ok i)) long ∙ sym told₁);
           stands = same_both (subst (λ (u : Used). SameUsed t₄ (tabled u)) tables k₄.same) k₁.same;
           says =
               ap (λ (x : List ℕ). said x t₄) here

@@ -12,7 +12,7 @@ use native.Mathlib.Omega.{arith}
 use lib.ListN.{length, take, get_or, replicate}
 use lib.Dec.{T, eqb}
 use Rattle.octets.specs.Octets.{Octets, Each, part, be}
-use Rattle.reference.specs.declared.Answer.TheVariants.{Refused}
+use Rattle.std.specs.Prelude.{Err}
 use Rattle.reference.specs.declared.Reading.{Reading}
 use Rattle.reference.specs.declared.Refusal.{Refusal}
 use Rattle.reference.specs.declared.NameComponent.{NameComponent}
@@ -67,16 +67,16 @@ module _ (s : List ℕ) (o : Octets s) (t a : List ℕ) (r : ℕ) (b e : List �
   pub c_unasked_reading_leaves_all : r ≡ 255 → (b ≡ a) × (e ≡ t)
   c_unasked_reading_leaves_all = rules.c_unasked_reading_leaves_all Multiple s o t a r b e c
 
-  pub c_refused_reading_is_empty : r ≢ 0 → r ≢ 255 → (x : Refusal) × (r ≡ x.number) × (Among r (1 ∷ 2 ∷ 3 ∷ 4 ∷ 6 ∷ 7 ∷ [])) × (b ≡ numbers_of (Refused x)) × (e ≡ replicate table_size 0)
+  pub c_refused_reading_is_empty : r ≢ 0 → r ≢ 255 → (x : Refusal) × (r ≡ x.number) × (Among r (1 ∷ 2 ∷ 3 ∷ 4 ∷ 6 ∷ 7 ∷ [])) × (b ≡ numbers_of (Err x)) × (e ≡ replicate table_size 0)
   c_refused_reading_is_empty = rules.c_refused_reading_is_empty Multiple s o t a r b e c
 
   -- Where it broke. The sixth number points into s; where a value is wrong (3, 4), the field that the place names stands there and is wrong; 6 and 7 have 0.
-  pub c_offset_inside : r ≢ 0 → r ≢ 255 → (x : Refusal) × (b ≡ numbers_of (Refused x)) × (Points s x)
+  pub c_offset_inside : r ≢ 0 → r ≢ 255 → (x : Refusal) × (b ≡ numbers_of (Err x)) × (Points s x)
   c_offset_inside = rules.c_offset_inside Multiple s o t a r b e c
 
   -- Nothing behind a wrong value is to blame: of every array s' of octets that is not shorter, up to 65,535, and agrees with s up to the end of the field, a call
   -- with arrays of the right lengths tells the same.
-  pub c_blamed : Among r (3 ∷ 4 ∷ []) → (x : Refusal) × (b ≡ numbers_of (Refused x))
+  pub c_blamed : Among r (3 ∷ 4 ∷ []) → (x : Refusal) × (b ≡ numbers_of (Err x))
       × ((s' : List ℕ) → Alike s s' x → (t' a' : List ℕ) (r' : ℕ) (b' e' : List ℕ) → Lent t' → length a' ≡ answer_size → IorRead s' t' a' r' b' e' → (r' ≡ r) × (b' ≡ b))
   c_blamed = rules.c_blamed Multiple s o t a r b e c
 
@@ -123,17 +123,17 @@ module _ (s : List ℕ) (o : Octets s) (t a : List ℕ) (r : ℕ) (b e : List �
   pub c_whole_is_leading : r ≡ 0 → (IorRead s t a r b e) × (get_or b 4 0 ≡ length s)
   c_whole_is_leading = rules.c_whole_is_leading Multiple s o t a r b e c
 
-  -- Refused readings of a whole slice: the same as of a leading part.
+  -- Err readings of a whole slice: the same as of a leading part.
   pub c_unasked_whole_leaves_all : r ≡ 255 → (b ≡ a) × (e ≡ t)
   c_unasked_whole_leaves_all = rules.c_unasked_whole_leaves_all Multiple s o t a r b e c
 
-  pub c_refused_whole_is_empty : r ≢ 0 → r ≢ 255 → (x : Refusal) × (r ≡ x.number) × (Among r (1 ∷ 2 ∷ 3 ∷ 4 ∷ 6 ∷ 7 ∷ [])) × (b ≡ numbers_of (Refused x)) × (e ≡ replicate table_size 0)
+  pub c_refused_whole_is_empty : r ≢ 0 → r ≢ 255 → (x : Refusal) × (r ≡ x.number) × (Among r (1 ∷ 2 ∷ 3 ∷ 4 ∷ 6 ∷ 7 ∷ [])) × (b ≡ numbers_of (Err x)) × (e ≡ replicate table_size 0)
   c_refused_whole_is_empty = rules.c_refused_whole_is_empty Multiple s o t a r b e c
 
-  pub c_whole_offset_inside : r ≢ 0 → r ≢ 255 → (x : Refusal) × (b ≡ numbers_of (Refused x)) × (Points s x)
+  pub c_whole_offset_inside : r ≢ 0 → r ≢ 255 → (x : Refusal) × (b ≡ numbers_of (Err x)) × (Points s x)
   c_whole_offset_inside = rules.c_whole_offset_inside Multiple s o t a r b e c
 
-  pub c_whole_blamed : Among r (3 ∷ 4 ∷ []) → (x : Refusal) × (b ≡ numbers_of (Refused x))
+  pub c_whole_blamed : Among r (3 ∷ 4 ∷ []) → (x : Refusal) × (b ≡ numbers_of (Err x))
       × ((s' : List ℕ) → Alike s s' x → (t' a' : List ℕ) (r' : ℕ) (b' e' : List ℕ) → Lent t' → length a' ≡ answer_size → IorReadWhole s' t' a' r' b' e' → (r' ≡ r) × (b' ≡ b))
   c_whole_blamed = rules.c_whole_blamed Multiple s o t a r b e c
 
@@ -199,12 +199,12 @@ through_the_day = rules.through_the_day Multiple Constants
 
 -- ---- ior_name_read
 
-name_refuses : (y : Answer NameComponent) (x : Refusal) → name_said y ≡ Refused x → y ≡ refused x
+name_refuses : (y : Answer NameComponent) (x : Refusal) → name_said y ≡ Err x → y ≡ refused x
 name_refuses (ok n k) x e = let z : ◌≡◌ {A = ℕ} 0 1 = cc in absurd (omega arith)
 name_refuses (refused z) x e = let q : z ≡ x = cc in ap (λ (y : Refusal). refused y) q
 
 -- Where it broke: the sixth number points into s, and 6 has 0.
-pub c_name_offset_inside : (s v a : List ℕ) (r : ℕ) (b e : List ℕ) → IorNameRead s v a r b e → r ≢ 0 → r ≢ 255 → (x : Refusal) × (b ≡ numbers_of (Refused x)) × (Points s x)
+pub c_name_offset_inside : (s v a : List ℕ) (r : ℕ) (b e : List ℕ) → IorNameRead s v a r b e → r ≢ 0 → r ≢ 255 → (x : Refusal) × (b ≡ numbers_of (Err x)) × (Points s x)
 c_name_offset_inside s v a r b e c z w =
     by_test (sized 4 (length v) (length a))
     (λ h.

@@ -8,7 +8,7 @@ use native.Mathlib.Omega.{arith}
 use lib.ListN.{length, get_or, replicate}
 use Rattle.reference.specs.declared.TypeIdRule.{TypeIdRule}
 use Rattle.octets.specs.Octets.{Octets}
-use Rattle.reference.specs.declared.Answer.TheVariants.{Count, Refused}
+use Rattle.std.specs.Prelude.{Ok, Err}
 use Rattle.reference.specs.declared.Refusal.{Refusal}
 use Rattle.reference.specs.Meaning.{Reference, Room}
 use Rattle.reference.specs.Layout.{WellFormed}
@@ -43,8 +43,8 @@ module _ (rule : TypeIdRule) where
     pub count : ℕ
     pub lent : Lent t
     pub six : length a ≡ answer_size
-    pub told : b ≡ numbers_of (Count count)
-    pub into : ReadInto rule x t e (Count count)
+    pub told : b ≡ numbers_of (Ok count)
+    pub into : ReadInto rule x t e (Ok count)
 
   module _ (x : Answer Reference) (numbered : Numbered x) (t a : List ℕ) (r : ℕ) (b e : List ℕ) (c : Reads x t a r b e) where
     pub read_zero : r ≡ 0 → ReadZero x t a b e
@@ -59,12 +59,12 @@ module _ (rule : TypeIdRule) where
             g : (r ≡ number_of (answered rule x).answer) × (b ≡ numbers_of (answered rule x).answer) × (e ≡ table_left rule x t)
             g = asked_given c h
 
-            taken : (n : ℕ) → (answered rule x).answer ≡ Count n → ReadZero x t a b e
+            taken : (n : ℕ) → (answered rule x).answer ≡ Ok n → ReadZero x t a b e
             taken n q =
                 let (l, f) = lengths table_size (length t) (length a) h in
                 record { count = n; lent = l; six = f; told = g.1 ∙ ap numbers_of q; into = record { answers = sym q; leaves = g.2 } }
 
-            not : (y : Refusal) → (answered rule x).answer ≡ Refused y → ReadZero x t a b e
+            not : (y : Refusal) → (answered rule x).answer ≡ Err y → ReadZero x t a b e
             not y q =
                 let k = (numbered y (refuses rule x y q)).0 in
                 let n : r ≡ y.number = g.0 ∙ ap number_of q in
@@ -77,7 +77,7 @@ module _ (rule : TypeIdRule) where
         (p, q, record { answers = refl; leaves = s })
 
     -- what the reader refuses, with arrays of the right lengths, is told
-    pub refused_told : {y : Refusal} → x ≡ refused y → Lent t → length a ≡ answer_size → (r ≡ y.number) × (b ≡ numbers_of (Refused y))
+    pub refused_told : {y : Refusal} → x ≡ refused y → Lent t → length a ≡ answer_size → (r ≡ y.number) × (b ≡ numbers_of (Err y))
     refused_told q l f =
         let (p, g, _) = read_sized l f in
         let e = ap (λ (v : Answer Reference). (answered rule v).answer) q in
@@ -90,17 +90,17 @@ module _ (rule : TypeIdRule) where
     pub read_unasked : r ≡ 255 → (b ≡ a) × (e ≡ t)
     read_unasked z = let (n, p, q) = unasked_given c ((unasked_exactly (λ y q. (numbered y (refuses rule x y q)).1) c.tells).0 z) in (p, q)
 
-    pub read_refused : r ≢ 0 → r ≢ 255 → (y : Refusal) × (x ≡ refused y) × (r ≡ y.number) × (b ≡ numbers_of (Refused y)) × (e ≡ replicate table_size 0)
+    pub read_refused : r ≢ 0 → r ≢ 255 → (y : Refusal) × (x ≡ refused y) × (r ≡ y.number) × (b ≡ numbers_of (Err y)) × (e ≡ replicate table_size 0)
     read_refused z w = by_test (sized table_size (length t) (length a)) yes (λ h. absurd (w (unasked_given c h).0))
       where
-        yes : sized table_size (length t) (length a) ≡ true → (y : Refusal) × (x ≡ refused y) × (r ≡ y.number) × (b ≡ numbers_of (Refused y)) × (e ≡ replicate table_size 0)
+        yes : sized table_size (length t) (length a) ≡ true → (y : Refusal) × (x ≡ refused y) × (r ≡ y.number) × (b ≡ numbers_of (Err y)) × (e ≡ replicate table_size 0)
         yes h = by_answer (answered rule x).answer (λ n q. absurd (z ((asked_given c h).0 ∙ ap number_of q)))
             (λ y q.
             let (p, k, l) = asked_given c h in
             (y, refuses rule x y q, p ∙ ap number_of q, k ∙ ap numbers_of q, (into_refused rule x t e (answered rule x).answer (record { answers = refl; leaves = l }) y q).0))
 
     -- 3 or 4: what the reader refuses, and what is told
-    pub read_wrong : Among r (3 ∷ 4 ∷ []) → (y : Refusal) × (x ≡ refused y) × (Among y.number (3 ∷ 4 ∷ [])) × (r ≡ y.number) × (b ≡ numbers_of (Refused y))
+    pub read_wrong : Among r (3 ∷ 4 ∷ []) → (y : Refusal) × (x ≡ refused y) × (Among y.number (3 ∷ 4 ∷ [])) × (r ≡ y.number) × (b ≡ numbers_of (Err y))
     read_wrong h =
         let (low, high) = wrongs r h in
         let (y, q, n, told, left) = read_refused (λ z. omega arith) (λ z. omega arith) in
@@ -113,7 +113,7 @@ module _ (rule : TypeIdRule) where
       λ h.
           let k = read_zero h.0 in
           let p : k.count ≡ n = sym (ap (λ (v : List ℕ). get_or v 4 0) k.told) ∙ h.1 in
-          (into_exactly rule x t e (Count k.count) k.into l good n u).0 (ap Count p, h.2),
+          (into_exactly rule x t e (Ok k.count) k.into l good n u).0 (ap Ok p, h.2),
       λ h.
           let (p, q, i) = read_sized l f in
           let (s, v) = (into_exactly rule x t e (answered rule x).answer i l good n u).1 h in
@@ -133,5 +133,5 @@ module _ (rule : TypeIdRule) where
       → (Reads (read_leading rule s) t a r b e) × (get_or b 4 0 ≡ length s)
   whole_is_leading s o t a r b e c z =
       let k = read_zero (read_whole rule s) (wholly s) t a r b e c z in
-      let (i, n) = whole_into rule s o t e (Count k.count) k.count refl k.into in
+      let (i, n) = whole_into rule s o t e (Ok k.count) k.count refl k.into in
       (given (is_sized table_size (length t) (length a) k.lent k.six) i.answers (z, k.told) i.leaves, ap (λ (v : List ℕ). get_or v 4 0) k.told ∙ n)

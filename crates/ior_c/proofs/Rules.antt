@@ -11,7 +11,7 @@ use Rattle.reference.specs.declared.TypeIdRule.{TypeIdRule}
 use Rattle.reference.specs.declared.AddressWay.{AddressWay}
 use Rattle.reference.specs.declared.AddressWay.TheVariants.{Constants}
 use Rattle.octets.specs.Octets.{Octets, Each}
-use Rattle.reference.specs.declared.Answer.TheVariants.{Count, Refused}
+use Rattle.std.specs.Prelude.{Ok, Err}
 use Rattle.reference.specs.declared.Refusal.{Refusal}
 use Rattle.reference.specs.Meaning.{Reference}
 use Rattle.reference.specs.Layout.{Leads}
@@ -55,10 +55,10 @@ module _ (rule : TypeIdRule) where
     taken z =
         let k = reading.read_zero rule (read_leading rule s) (reading.leading rule s) t a r b e c z in
         let q : k.count ≡ get_or b 4 0 = sym (ap (λ (v : List ℕ). get_or v 4 0) k.told) in
-        (k, leading_taken rule s o t e k.lent (Count k.count) (get_or b 4 0) (ap Count q) k.into)
+        (k, leading_taken rule s o t e k.lent (Ok k.count) (get_or b 4 0) (ap Ok q) k.into)
 
-    zeros : reading.ReadZero rule (read_leading rule s) t a b e → numbers_of (Count (get_or b 4 0)) ≡ b
-    zeros k = ap (λ (i : List ℕ). numbers_of (Count (get_or i 4 0))) k.told ∙ sym k.told
+    zeros : reading.ReadZero rule (read_leading rule s) t a b e → numbers_of (Ok (get_or b 4 0)) ≡ b
+    zeros k = ap (λ (i : List ℕ). numbers_of (Ok (get_or i 4 0))) k.told ∙ sym k.told
 
     pub c_accepts_exactly : Lent t → length a ≡ answer_size → length s ≤ 65535 → (n : ℕ) (u : Used)
         → ((r ≡ 0) × (get_or b 4 0 ≡ n) × (used_of (tables_from e) ≡ u)) ↔ ((m : Reference) × (Leads rule s m n) × (u ≡ tables_of rule m))
@@ -74,15 +74,15 @@ module _ (rule : TypeIdRule) where
     pub c_unasked_reading_leaves_all : r ≡ 255 → (b ≡ a) × (e ≡ t)
     c_unasked_reading_leaves_all z = reading.read_unasked rule (read_leading rule s) (reading.leading rule s) t a r b e c z
 
-    pub c_refused_reading_is_empty : r ≢ 0 → r ≢ 255 → (x : Refusal) × (r ≡ x.number) × (Among r (1 ∷ 2 ∷ 3 ∷ 4 ∷ 6 ∷ 7 ∷ [])) × (b ≡ numbers_of (Refused x)) × (e ≡ replicate table_size 0)
+    pub c_refused_reading_is_empty : r ≢ 0 → r ≢ 255 → (x : Refusal) × (r ≡ x.number) × (Among r (1 ∷ 2 ∷ 3 ∷ 4 ∷ 6 ∷ 7 ∷ [])) × (b ≡ numbers_of (Err x)) × (e ≡ replicate table_size 0)
     c_refused_reading_is_empty z w =
         let (x, q, n, told, left) = reading.read_refused rule (read_leading rule s) (reading.leading rule s) t a r b e c z w in
         (x, n, subst (λ (i : ℕ). Among i (1 ∷ 2 ∷ 3 ∷ 4 ∷ 6 ∷ 7 ∷ [])) (sym n) (leading_numbers rule s x q), told, left)
 
-    pub c_offset_inside : r ≢ 0 → r ≢ 255 → (x : Refusal) × (b ≡ numbers_of (Refused x)) × (Points rule s x)
+    pub c_offset_inside : r ≢ 0 → r ≢ 255 → (x : Refusal) × (b ≡ numbers_of (Err x)) × (Points rule s x)
     c_offset_inside z w = let (x, q, n, told, left) = reading.read_refused rule (read_leading rule s) (reading.leading rule s) t a r b e c z w in (x, told, blame.leading_points rule s x q)
 
-    pub c_blamed : Among r (3 ∷ 4 ∷ []) → (x : Refusal) × (b ≡ numbers_of (Refused x))
+    pub c_blamed : Among r (3 ∷ 4 ∷ []) → (x : Refusal) × (b ≡ numbers_of (Err x))
         × ((s' : List ℕ) → Alike rule s s' x → (t' a' : List ℕ) (r' : ℕ) (b' e' : List ℕ) → Lent t' → length a' ≡ answer_size → IorRead rule s' t' a' r' b' e' → (r' ≡ r) × (b' ≡ b))
     c_blamed h =
         let (x, q, k, n, told) = reading.read_wrong rule (read_leading rule s) (reading.leading rule s) t a r b e c h in (
@@ -93,8 +93,8 @@ module _ (rule : TypeIdRule) where
               (m ∙ sym n, v ∙ sym told),
         )
 
-    counted : r ≡ 0 → (answered rule (read_leading rule s)).answer ≡ Count (get_or b 4 0)
-    counted z = let k = (taken z).0 in sym k.into.answers ∙ ap Count (sym (ap (λ (v : List ℕ). get_or v 4 0) k.told))
+    counted : r ≡ 0 → (answered rule (read_leading rule s)).answer ≡ Ok (get_or b 4 0)
+    counted z = let k = (taken z).0 in sym k.into.answers ∙ ap Ok (sym (ap (λ (v : List ℕ). get_or v 4 0) k.told))
 
     pub c_cut_short : r ≡ 0 → (j : ℕ) → j < get_or b 4 0 → (t' a' : List ℕ) (r' : ℕ) (b' e' : List ℕ) → Lent t' → length a' ≡ answer_size → IorRead rule (take j s) t' a' r' b' e' → Among r' (1 ∷ 2 ∷ [])
     c_cut_short z j lt t' a' r' b' e' l six w =
@@ -109,7 +109,7 @@ module _ (rule : TypeIdRule) where
     c_behind z x ox small t' a' r' b' e' l six w =
         let n = get_or b 4 0 in
         let (k, v) = taken z in
-        let told : (answered rule (read_leading rule s)).answer ≡ Count n = counted z in
+        let told : (answered rule (read_leading rule s)).answer ≡ Ok n = counted z in
         let same = promised.behind rule s x o ox n told small in
         let (p, q, i) = reading.read_sized rule (read_leading rule s) (reading.leading rule s) t' a' r' b' e' (subst (λ (y : Answer Reference). reading.Reads rule y t' a' r' b' e') same w) l six in (
           p ∙ ap number_of told,
@@ -157,15 +157,15 @@ module _ (rule : TypeIdRule) where
     pub c_unasked_whole_leaves_all : r ≡ 255 → (b ≡ a) × (e ≡ t)
     c_unasked_whole_leaves_all z = reading.read_unasked rule (read_whole rule s) (reading.wholly rule s) t a r b e c z
 
-    pub c_refused_whole_is_empty : r ≢ 0 → r ≢ 255 → (x : Refusal) × (r ≡ x.number) × (Among r (1 ∷ 2 ∷ 3 ∷ 4 ∷ 6 ∷ 7 ∷ [])) × (b ≡ numbers_of (Refused x)) × (e ≡ replicate table_size 0)
+    pub c_refused_whole_is_empty : r ≢ 0 → r ≢ 255 → (x : Refusal) × (r ≡ x.number) × (Among r (1 ∷ 2 ∷ 3 ∷ 4 ∷ 6 ∷ 7 ∷ [])) × (b ≡ numbers_of (Err x)) × (e ≡ replicate table_size 0)
     c_refused_whole_is_empty z w =
         let (x, q, n, told, left) = reading.read_refused rule (read_whole rule s) (reading.wholly rule s) t a r b e c z w in
         (x, n, subst (λ (i : ℕ). Among i (1 ∷ 2 ∷ 3 ∷ 4 ∷ 6 ∷ 7 ∷ [])) (sym n) (whole_numbers rule s x q), told, left)
 
-    pub c_whole_offset_inside : r ≢ 0 → r ≢ 255 → (x : Refusal) × (b ≡ numbers_of (Refused x)) × (Points rule s x)
+    pub c_whole_offset_inside : r ≢ 0 → r ≢ 255 → (x : Refusal) × (b ≡ numbers_of (Err x)) × (Points rule s x)
     c_whole_offset_inside z w = let (x, q, n, told, left) = reading.read_refused rule (read_whole rule s) (reading.wholly rule s) t a r b e c z w in (x, told, blame.whole_points rule s x q)
 
-    pub c_whole_blamed : Among r (3 ∷ 4 ∷ []) → (x : Refusal) × (b ≡ numbers_of (Refused x))
+    pub c_whole_blamed : Among r (3 ∷ 4 ∷ []) → (x : Refusal) × (b ≡ numbers_of (Err x))
         × ((s' : List ℕ) → Alike rule s s' x → (t' a' : List ℕ) (r' : ℕ) (b' e' : List ℕ) → Lent t' → length a' ≡ answer_size → IorReadWhole rule s' t' a' r' b' e' → (r' ≡ r) × (b' ≡ b))
     c_whole_blamed h =
         let (x, q, k, n, told) = reading.read_wrong rule (read_whole rule s) (reading.wholly rule s) t a r b e c h in (

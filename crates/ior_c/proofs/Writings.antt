@@ -9,7 +9,7 @@ use lib.ListN.{length, get_or}
 use Rattle.reference.specs.declared.TypeIdRule.{TypeIdRule}
 use Rattle.reference.specs.declared.AddressWay.{AddressWay}
 use Rattle.reference.specs.declared.AddressWay.TheVariants.{Constants}
-use Rattle.reference.specs.declared.Answer.TheVariants.{Count, Refused}
+use Rattle.std.specs.Prelude.{Ok, Err}
 use Rattle.reference.specs.declared.Refusal.{Refusal}
 use Rattle.reference.specs.Checks.{Among}
 use Rattle.reference.specs.Writer.{image_of, measured, written, leaves}
@@ -40,7 +40,7 @@ module _ (rule : TypeIdRule) where
 
   -- measuring it tells the part's length
   pub left_measured : (s t e : List ℕ) (n : ℕ) → Lent t → Taken rule s t e n → (a : List ℕ) (r : ℕ) (b : List ℕ) → length a ≡ answer_size → IorLength rule e s a r b
-      → (r ≡ 0) × (b ≡ numbers_of (Count n))
+      → (r ≡ 0) × (b ≡ numbers_of (Ok n))
   left_measured s t e n l k a r b six w =
       let (p, q) = asked_told w (left_askable s t e n l k (length a) six) in
       let h = (length_is_written rule Constants (tables_from e) s s).length n (k.back Constants s k.leads.inside).0 in
@@ -54,7 +54,7 @@ module _ (rule : TypeIdRule) where
 module _ (rule : TypeIdRule) (way : AddressWay) where
   -- writing the table that an accepted reading left, over the same octets, into an output with room
   pub left_written : (s t e : List ℕ) (n : ℕ) → Lent t → (k : Taken rule s t e n) → (d a : List ℕ) (r : ℕ) (b f : List ℕ) → length a ≡ answer_size → n ≤ length d → IorWrite rule way e s d a r b f
-      → (r ≡ 0) × (b ≡ numbers_of (Count n)) × (f ≡ leaves rule way (tables_from e) s d) × (GivesBack rule way s k.meaning n d f)
+      → (r ≡ 0) × (b ≡ numbers_of (Ok n)) × (f ≡ leaves rule way (tables_from e) s d) × (GivesBack rule way s k.meaning n d f)
   left_written s t e n l k d a r b f six room w =
       let (p, q, h) = asked_given w (left_askable rule s t e n l k (length a) six) in
       let (v, g) = k.back way d room in
@@ -73,17 +73,17 @@ module _ (rule : TypeIdRule) (way : AddressWay) where
 
   -- what a writing call gives where the table can be asked
   module _ (t s d a : List ℕ) (r : ℕ) (b f : List ℕ) (c : IorWrite rule way t s d a r b f) where
-    pub write_zero : r ≡ 0 → (askable t (length a) ≡ true) × (b ≡ numbers_of (Count (get_or b 4 0))) × (written rule (tables_from t) s d ≡ Count (get_or b 4 0)) × (f ≡ leaves rule way (tables_from t) s d)
+    pub write_zero : r ≡ 0 → (askable t (length a) ≡ true) × (b ≡ numbers_of (Ok (get_or b 4 0))) × (written rule (tables_from t) s d ≡ Ok (get_or b 4 0)) × (f ≡ leaves rule way (tables_from t) s d)
     write_zero z = by_test (askable t (length a)) yes (λ h. let n = (unasked_given c h).0 in absurd (omega arith))
       where
-        yes : askable t (length a) ≡ true → (askable t (length a) ≡ true) × (b ≡ numbers_of (Count (get_or b 4 0))) × (written rule (tables_from t) s d ≡ Count (get_or b 4 0)) × (f ≡ leaves rule way (tables_from t) s d)
+        yes : askable t (length a) ≡ true → (askable t (length a) ≡ true) × (b ≡ numbers_of (Ok (get_or b 4 0))) × (written rule (tables_from t) s d ≡ Ok (get_or b 4 0)) × (f ≡ leaves rule way (tables_from t) s d)
         yes h =
             let (p, q, l) = asked_given c h in
             by_answer (written rule (tables_from t) s d)
             (λ n e.
-            let w : b ≡ numbers_of (Count n) = q ∙ ap numbers_of e in
+            let w : b ≡ numbers_of (Ok n) = q ∙ ap numbers_of e in
             let v : n ≡ get_or b 4 0 = sym (ap (λ (y : List ℕ). get_or y 4 0) w) in
-            (h, w ∙ ap (λ (i : ℕ). numbers_of (Count i)) v, e ∙ ap Count v, l))
+            (h, w ∙ ap (λ (i : ℕ). numbers_of (Ok i)) v, e ∙ ap Ok v, l))
             (λ y e.
             let k = (writing_number rule (tables_from t) s d y e).0 in
             let n : r ≡ y.number = p ∙ ap number_of e in
@@ -123,10 +123,10 @@ module _ (rule : TypeIdRule) (way : AddressWay) where
             put : (r ≡ number_of (written rule (tables_from t) s d)) × (b ≡ numbers_of (written rule (tables_from t) s d)) × (f ≡ leaves rule way (tables_from t) s d)
             put = asked_given c h
 
-            counts : (n : ℕ) → measured rule (tables_from t) s ≡ Count n → SameLength (image_of rule way s (tables_from t)) q b' r b
+            counts : (n : ℕ) → measured rule (tables_from t) s ≡ Ok n → SameLength (image_of rule way s (tables_from t)) q b' r b
             counts n e =
                 let p : q ≡ 0 = told.0 ∙ ap number_of e in
-                let g : b' ≡ numbers_of (Count n) = told.1 ∙ ap numbers_of e in
+                let g : b' ≡ numbers_of (Ok n) = told.1 ∙ ap numbers_of e in
                 record {
                   image = λ z. let v = ap (λ (i : List ℕ). get_or i 4 0) g in let (k, m) = x.image n e in (k ∙ sym v, omega arith);
                   length = λ z.
@@ -144,7 +144,7 @@ module _ (rule : TypeIdRule) (way : AddressWay) where
                   unasked = alike255;
                 }
 
-            refuses : (y : Refusal) → measured rule (tables_from t) s ≡ Refused y → SameLength (image_of rule way s (tables_from t)) q b' r b
+            refuses : (y : Refusal) → measured rule (tables_from t) s ≡ Err y → SameLength (image_of rule way s (tables_from t)) q b' r b
             refuses y e =
                 let p : q ≡ y.number = told.0 ∙ ap number_of e in
                 let (w', m) = x.refused y e in

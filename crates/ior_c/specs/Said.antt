@@ -1,32 +1,29 @@
 -- What the exported functions answer, in numbers: an answer as six, a kind, a tap's numbers, a name's views; and what holds of the result and the
 -- arrays where the call is asked with arrays of the right lengths, and where it is not. Assumes nothing.
-use Rattle.std.specs.Prelude.{ℕ, ◌≡◌, Bool, true, false, ◌&&◌, List, [], ◌∷◌, eqb, leb, length}
+use Rattle.std.specs.Prelude.{ℕ, ◌≡◌, Bool, true, false, ◌&&◌, List, [], ◌∷◌, eqb, leb, length, Option, Some, None, Result, Ok, Err}
 use Rattle.octets.specs.Octets.{be}
 use Rattle.reference.specs.declared.NameComponent.{NameComponent}
-use Rattle.reference.specs.declared.Answer.{Answer as Told}
-use Rattle.reference.specs.declared.Answer.TheVariants.{Count, Refused}
+use Rattle.reference.specs.Refusals.{Told}
 use Rattle.reference.specs.Steps.{Answer, ok, refused, pick}
 use Rattle.reference.specs.declared.ObjectKind.{ObjectKind}
 use Rattle.reference.specs.declared.ObjectKind.TheVariants.{Directory, File, Stream, ServiceGateway, StreamEvent, Unknown}
 use Rattle.reference.specs.declared.TapNumbers.{TapNumbers}
-use Rattle.reference.specs.declared.TapNumbers.TheVariants.{Both, Neither}
-use Rattle.reference.specs.declared.FirstBiop.{FirstBiop}
-use Rattle.reference.specs.declared.FirstBiop.TheVariants as Firsts
+use Rattle.reference.specs.declared.Refusal.{Refusal}
 use Rattle.table.specs.Flat.{name_numbers, table_size}
 use Rattle.survey.specs.Exact.{exact}
 
 -- ---- an answer: the refusal's number, its place and figures, the count, and the offset where a reading broke; what is not named is 0
 
 abbrev pub number_of : Told → ℕ
-number_of (Count n) = 0
-number_of (Refused x) = x.number
+number_of (Ok n) = 0
+number_of (Err x) = x.number
 
 abbrev pub answer_size : ℕ
 answer_size = 6
 
 abbrev pub numbers_of : Told → List ℕ
-numbers_of (Count n) = 0 ∷ 0 ∷ 0 ∷ 0 ∷ n ∷ 0 ∷ []
-numbers_of (Refused x) = x.number ∷ x.place ∷ x.first ∷ x.second ∷ 0 ∷ x.offset ∷ []
+numbers_of (Ok n) = 0 ∷ 0 ∷ 0 ∷ 0 ∷ n ∷ 0 ∷ []
+numbers_of (Err x) = x.number ∷ x.place ∷ x.first ∷ x.second ∷ 0 ∷ x.offset ∷ []
 
 -- ---- a call: asked as it must be, it answers n and leaves l in the array a; else it answers 255 and leaves a
 
@@ -64,19 +61,19 @@ kind_number (Unknown n) = 5
 unfoldable pub type_number : List ℕ → ℕ
 type_number l = pick (eqb (length l) 4) (be l) 0
 
-abbrev pub tap_result : TapNumbers → ℕ
-tap_result (Both transaction timeout) = 1
-tap_result Neither = 0
+abbrev pub tap_result : Option TapNumbers → ℕ
+tap_result (Some x) = 1
+tap_result None = 0
 
-abbrev pub tap_pair : TapNumbers → List ℕ
-tap_pair (Both transaction timeout) = transaction ∷ timeout ∷ []
-tap_pair Neither = 0 ∷ 0 ∷ []
+abbrev pub tap_pair : Option TapNumbers → List ℕ
+tap_pair (Some x) = x.transaction ∷ x.timeout ∷ []
+tap_pair None = 0 ∷ 0 ∷ []
 
 -- 8, one more than the last index, where there is none
-abbrev pub first_said : FirstBiop → Told
-first_said (Firsts.At i) = Count i
-first_said Firsts.Nothing = Count 8
-first_said (Firsts.Refused x) = Refused x
+abbrev pub first_said : Result (Option ℕ) Refusal → Told
+first_said (Ok (Some i)) = Ok i
+first_said (Ok None) = Ok 8
+first_said (Err x) = Err x
 
 abbrev pub truth : Bool → ℕ
 truth true = 1
@@ -85,8 +82,8 @@ truth false = 0
 -- ---- the name with lengths of one octet: what is answered, and the four numbers of its views
 
 abbrev pub name_said : Answer NameComponent → Told
-name_said (ok x n) = Count n
-name_said (refused y) = Refused y
+name_said (ok x n) = Ok n
+name_said (refused y) = Err y
 
 abbrev pub name_left : Answer NameComponent → List ℕ
 name_left (ok x n) = name_numbers x

@@ -4,25 +4,28 @@
 // is changed. What the arrays hold and how long they are is asked of no caller; that the pointers are right, C can't check.
 #![tactic(auto)]
 
-ghost use Rattle.std.specs.Prelude.{◌≡◌, length};
+ghost use Rattle.std.specs.Prelude.{◌≡◌, ◌≢◌, MatchOption};
 ghost use Rattle.reference.specs.Questions.{first_biop};
-ghost use Rattle.table.specs.Flat.{tables_from, name_from, name_numbers, Lent};
+ghost use Rattle.table.specs.Flat.{tables_from, name_from, name_numbers};
 ghost use Rattle.ior_c.specs.Today.{IorRead, IorReadWhole, IorLength, IorWrite};
 ghost use Rattle.ior_c.specs.Calls as Calls;
-ghost use Rattle.ior_c.specs.Calls.{IorReadBy, IorReadWholeBy, IorLengthBy, IorWriteBy, IorKind, IorTap, IorFirstBiop, IorDvbAddress, IorNameRead, IorNameWrite};
-ghost use Rattle.ior_c.specs.Said.{answer_size, number_of, numbers_of, sized, askable, kind_number, type_number, tap_result, tap_pair, first_said};
+ghost use Rattle.reference.specs.declared.TypeIdRule.{TypeIdRule};
+ghost use Rattle.reference.specs.declared.AddressWay.{AddressWay};
+ghost use Rattle.ior_c.specs.Calls.{rule_number, way_number, IorReadBy, IorReadWholeBy, IorLengthBy, IorWriteBy, IorKind, IorTap, IorFirstBiop, IorDvbAddress, IorNameRead, IorNameWrite};
+ghost use Rattle.ior_c.specs.Said.{number_of, numbers_of, kind_number, type_number, tap_result, tap_pair, first_said};
+ghost use Rattle.ior_c.specs.Judged.{UnsoundTold};
 
-use faults::{Judged, judge, refusal_of, with_gap};
-use names::{ShortNameRead, read_short_name, write_short_name};
-use octets::{be32, copy};
+use faults::{Unsound, sound_length, with_gap};
+use names::{read_short_name, write_short_name};
+use octets::be32;
 use questions::{is_dvb, object_kind, tap_numbers};
 use reading::{read_leading_into_by, read_whole_into_by};
 use reference::{
     AddressWay, Answer, NameComponent, ObjectKind, PLACE_PROFILES, PROFILES, TapNumbers,
     TypeIdRule, View, wrong,
 };
-use survey::{BOUND, is_exact};
-use table::{BIOP, PROFILES_USED, SIZE, number_at, put_all};
+use survey::is_exact;
+use table::{BIOP, FlatTable, PROFILES_USED, SIZE, number_at};
 use table_entries::sort_at;
 use writing::write_sound;
 
@@ -44,50 +47,45 @@ pub const NAME: usize = 4;
 // ---- what all of them share
 
 // Number, place, both figures, the count and the offset; the number is the result too.
-fn put_answer(a: Answer, out: &mut [u64]) -> u32
-    requires { length out.old ≡ answer_size }
+fn put_answer(a: Answer, out: &mut [u64; ANSWER]) -> u32
     ensures { (result ≡ number_of a) × (out.new ≡ numbers_of a) }
 {
-    match a {
-        Answer::Count(n) => {
-            out[0] = 0;
-            out[1] = 0;
-            out[2] = 0;
-            out[3] = 0;
-            out[4] = n as u64;
-            out[5] = 0;
-            0
-        }
-        Answer::Refused(why) => {
-            out[0] = why.number as u64;
-            out[1] = why.place as u64;
-            out[2] = why.first as u64;
-            out[3] = why.second as u64;
-            out[4] = 0;
-            out[5] = why.offset as u64;
-            why.number as u32
-        }
+    let (number, numbers) = match a {
+        Ok(n) => (0, [0, 0, 0, 0, n as u64, 0]),
+        Err(why) => (
+            why.number as u32,
+            [
+                why.number as u64,
+                why.place as u64,
+                why.first as u64,
+                why.second as u64,
+                0,
+                why.offset as u64,
+            ],
+        ),
+    };
+    out.copy_from_slice(&numbers);
+    number
+}
+
+// The rule that a number names, and the way.
+fn rule_numbered(number: u32) -> Option<TypeIdRule>
+    ensures { MatchOption result ((rule : TypeIdRule) → number ≢ rule_number rule) (λ rule. number ≡ rule_number rule) }
+{
+    match number {
+        MULTIPLE => Some(TypeIdRule::Multiple),
+        GAP => Some(TypeIdRule::Gap),
+        _ => None,
     }
 }
 
-// Whether an array has `size` numbers and the answer beside it six.
-fn is_sized(size: usize, array: usize, answer: usize) -> bool
-    ensures { result ≡ sized size array answer }
+fn way_numbered(number: u32) -> Option<AddressWay>
+    ensures { MatchOption result ((way : AddressWay) → number ≢ way_number way) (λ way. number ≡ way_number way) }
 {
-    if array != size {
-        return false;
+    match number {
+        CONSTANTS => Some(AddressWay::Constants),
+        _ => None,
     }
-    answer == ANSWER
-}
-
-// Whether a table can be measured, written or asked: both arrays are sized, and the table is exact.
-fn can_ask(table: &[u32], answer: usize) -> bool
-    ensures { result ≡ askable table.now answer }
-{
-    if is_sized(SIZE, table.len(), answer) {
-        return is_exact(table);
-    }
-    false
 }
 
 // ---- references, under a rule
@@ -95,68 +93,70 @@ fn can_ask(table: &[u32], answer: usize) -> bool
 fn read_under(rule: TypeIdRule, s: &[u8], table: &mut [u32], answer: &mut [u64]) -> u32
     ensures { Calls.IorRead rule s.now table.old answer.old result answer.new table.new }
 {
-    if !is_sized(SIZE, table.len(), answer.len()) {
+    let Some(table) = table.as_mut_array::<SIZE>() else {
         return NOT_ASKED;
-    }
+    };
+    let Some(answer) = answer.as_mut_array::<ANSWER>() else {
+        return NOT_ASKED;
+    };
     put_answer(read_leading_into_by(s, table, rule), answer)
 }
 
+// A function of its own beside the one above: what they call is what their contracts name.
 fn read_whole_under(rule: TypeIdRule, s: &[u8], table: &mut [u32], answer: &mut [u64]) -> u32
     ensures { Calls.IorReadWhole rule s.now table.old answer.old result answer.new table.new }
 {
-    if !is_sized(SIZE, table.len(), answer.len()) {
+    let Some(table) = table.as_mut_array::<SIZE>() else {
         return NOT_ASKED;
-    }
+    };
+    let Some(answer) = answer.as_mut_array::<ANSWER>() else {
+        return NOT_ASKED;
+    };
     put_answer(read_whole_into_by(s, table, rule), answer)
 }
 
 fn length_under(rule: TypeIdRule, table: &[u32], s: &[u8], answer: &mut [u64]) -> u32
     ensures { Calls.IorLength rule table.now s.now answer.old result answer.new }
 {
-    if !is_sized(SIZE, table.len(), answer.len()) {
+    let Some(table) = table.as_array::<SIZE>() else {
         return NOT_ASKED;
+    };
+    let Some(answer) = answer.as_mut_array::<ANSWER>() else {
+        return NOT_ASKED;
+    };
+    match sound_length(table, s.len(), rule) {
+        Ok(total) => put_answer(with_gap(table, total, rule), answer),
+        Err(why) => put_unsound(why, answer),
     }
-    match judge(table, s.len()) {
-        Judged::Sound(total) => put_answer(with_gap(table, total, rule), answer),
-        Judged::Unsound(found) => {
-            if BOUND <= found.fields {
-                return NOT_ASKED;
-            }
-            put_answer(
-                Answer::Refused(refusal_of(found, table, s.len(), rule)),
-                answer,
-            )
-        }
+}
+
+// Why a lent table is refused: one that is not exact is answered as one of another length.
+fn put_unsound(why: Unsound, answer: &mut [u64; ANSWER]) -> u32
+    ensures { UnsoundTold why answer.old result answer.new }
+{
+    match why {
+        Unsound::NotExact => NOT_ASKED,
+        Unsound::Refused(refusal) => put_answer(Err(refusal), answer),
     }
 }
 
 fn write_lent(
     rule: TypeIdRule,
     way: AddressWay,
-    table: &[u32],
+    table: &FlatTable,
     s: &[u8],
     out: &mut [u8],
-    answer: &mut [u64],
+    answer: &mut [u64; ANSWER],
 ) -> u32
-    requires { Lent table.now × (length answer.old ≡ answer_size) }
     ensures { Calls.IorWrite rule way table.now s.now out.old answer.old result answer.new out.new }
 {
-    match judge(table, s.len()) {
-        Judged::Sound(total) => put_answer(write_sound(table, s, out, total, rule, way), answer),
-        Judged::Unsound(found) => {
-            if BOUND <= found.fields {
-                return NOT_ASKED;
-            }
-            put_answer(
-                Answer::Refused(refusal_of(found, table, s.len(), rule)),
-                answer,
-            )
-        }
+    match sound_length(table, s.len(), rule) {
+        Ok(total) => put_answer(write_sound(table, s, out, total, rule, way), answer),
+        Err(why) => put_unsound(why, answer),
     }
 }
 
-// The same, with both slices taken anew: one that is handed on as it came is copied whole, right behind the stores of its two halves, and a processor waits
-// for those.
+// The source is taken anew: a slice that is handed on as it came is copied whole, right behind the stores of its two halves, and a processor waits for those.
 fn write_under(
     rule: TypeIdRule,
     way: AddressWay,
@@ -165,10 +165,15 @@ fn write_under(
     out: &mut [u8],
     answer: &mut [u64],
 ) -> u32
-    requires { Lent table.now × (length answer.old ≡ answer_size) }
     ensures { Calls.IorWrite rule way table.now s.now out.old answer.old result answer.new out.new }
 {
-    write_lent(rule, way, &table[..SIZE], &s[..s.len()], out, answer)
+    let Some(table) = table.as_array::<SIZE>() else {
+        return NOT_ASKED;
+    };
+    let Some(answer) = answer.as_mut_array::<ANSWER>() else {
+        return NOT_ASKED;
+    };
+    write_lent(rule, way, table, &s[..s.len()], out, answer)
 }
 
 // ---- references
@@ -203,9 +208,6 @@ pub extern "C" fn ior_length(table: &[u32], s: &[u8], answer: &mut [u64]) -> u32
 pub extern "C" fn ior_write(table: &[u32], s: &[u8], out: &mut [u8], answer: &mut [u64]) -> u32
     ensures { IorWrite table.now s.now out.old answer.old result answer.new out.new }
 {
-    if !is_sized(SIZE, table.len(), answer.len()) {
-        return NOT_ASKED;
-    }
     write_under(
         TypeIdRule::Multiple,
         AddressWay::Constants,
@@ -223,13 +225,10 @@ pub extern "C" fn ior_write(table: &[u32], s: &[u8], out: &mut [u8], answer: &mu
 pub extern "C" fn ior_read_by(rule: u32, s: &[u8], table: &mut [u32], answer: &mut [u64]) -> u32
     ensures { IorReadBy rule s.now table.old answer.old result answer.new table.new }
 {
-    if rule == MULTIPLE {
-        return read_under(TypeIdRule::Multiple, s, table, answer);
+    match rule_numbered(rule) {
+        Some(named) => read_under(named, s, table, answer),
+        None => NOT_ASKED,
     }
-    if rule == GAP {
-        return read_under(TypeIdRule::Gap, s, table, answer);
-    }
-    NOT_ASKED
 }
 
 #[unsafe(no_mangle)]
@@ -241,26 +240,20 @@ pub extern "C" fn ior_read_whole_by(
 ) -> u32
     ensures { IorReadWholeBy rule s.now table.old answer.old result answer.new table.new }
 {
-    if rule == MULTIPLE {
-        return read_whole_under(TypeIdRule::Multiple, s, table, answer);
+    match rule_numbered(rule) {
+        Some(named) => read_whole_under(named, s, table, answer),
+        None => NOT_ASKED,
     }
-    if rule == GAP {
-        return read_whole_under(TypeIdRule::Gap, s, table, answer);
-    }
-    NOT_ASKED
 }
 
 #[unsafe(no_mangle)]
 pub extern "C" fn ior_length_by(rule: u32, table: &[u32], s: &[u8], answer: &mut [u64]) -> u32
     ensures { IorLengthBy rule table.now s.now answer.old result answer.new }
 {
-    if rule == MULTIPLE {
-        return length_under(TypeIdRule::Multiple, table, s, answer);
+    match rule_numbered(rule) {
+        Some(named) => length_under(named, table, s, answer),
+        None => NOT_ASKED,
     }
-    if rule == GAP {
-        return length_under(TypeIdRule::Gap, table, s, answer);
-    }
-    NOT_ASKED
 }
 
 // Writing also names the way an address is written: 1, with its constants.
@@ -275,33 +268,13 @@ pub extern "C" fn ior_write_by(
 ) -> u32
     ensures { IorWriteBy rule way table.now s.now out.old answer.old result answer.new out.new }
 {
-    if way != CONSTANTS {
+    let Some(named) = rule_numbered(rule) else {
         return NOT_ASKED;
+    };
+    match way_numbered(way) {
+        Some(chosen) => write_under(named, chosen, table, s, out, answer),
+        None => NOT_ASKED,
     }
-    if !is_sized(SIZE, table.len(), answer.len()) {
-        return NOT_ASKED;
-    }
-    if rule == MULTIPLE {
-        return write_under(
-            TypeIdRule::Multiple,
-            AddressWay::Constants,
-            table,
-            s,
-            out,
-            answer,
-        );
-    }
-    if rule == GAP {
-        return write_under(
-            TypeIdRule::Gap,
-            AddressWay::Constants,
-            table,
-            s,
-            out,
-            answer,
-        );
-    }
-    NOT_ASKED
 }
 
 // ---- questions
@@ -335,30 +308,24 @@ fn type_number(type_id: &[u8]) -> u32
 pub extern "C" fn ior_kind(type_id: &[u8], kind: &mut [u32]) -> u32
     ensures { IorKind type_id.now kind.old result kind.new }
 {
-    if kind.len() != 1 {
+    let Some(kind) = kind.as_mut_array::<1>() else {
         return NOT_ASKED;
-    }
-    kind[0] = type_number(type_id);
+    };
+    *kind = [type_number(type_id)];
     kind_number(object_kind(type_id))
 }
 
-// The two numbers in an array of two; 1 if the tap has them, 0 if it has neither, and zeros then.
-fn put_pair(found: TapNumbers, pair: &mut [u32]) -> u32
-    requires { length pair.old ≡ 2 }
+// The two numbers; 1 if the tap has them, 0 if it has neither, and zeros then.
+fn put_pair(found: Option<TapNumbers>, pair: &mut [u32; 2]) -> u32
     ensures { (result ≡ tap_result found) × (pair.new ≡ tap_pair found) }
 {
     match found {
-        TapNumbers::Both {
-            transaction,
-            timeout,
-        } => {
-            pair[0] = transaction;
-            pair[1] = timeout;
+        Some(numbers) => {
+            *pair = [numbers.transaction, numbers.timeout];
             1
         }
-        TapNumbers::Neither => {
-            pair[0] = 0;
-            pair[1] = 0;
+        None => {
+            *pair = [0, 0];
             0
         }
     }
@@ -369,39 +336,42 @@ fn put_pair(found: TapNumbers, pair: &mut [u32]) -> u32
 pub extern "C" fn ior_tap(uses: u32, selector: &[u8], pair: &mut [u32]) -> u32
     ensures { IorTap uses selector.now pair.old result pair.new }
 {
-    if 65535 < uses {
+    let Ok(tap_use) = u16::try_from(uses) else {
         return NOT_ASKED;
-    }
-    if pair.len() != 2 {
+    };
+    let Some(pair) = pair.as_mut_array::<2>() else {
         return NOT_ASKED;
-    }
-    put_pair(tap_numbers(uses as u16, selector), pair)
+    };
+    put_pair(tap_numbers(tap_use, selector), pair)
 }
 
 // The index of the first BIOP profile among the used ones, or 8 where there is none; refused with 8 if more are used than the table has.
-fn first_of(table: &[u32]) -> Answer
-    requires { Lent table.now }
+fn first_of(table: &FlatTable) -> Answer
     ensures { result ≡ first_said (first_biop (tables_from table.now)) }
 {
     let used = number_at(table, PROFILES_USED);
     if PROFILES < used {
-        return Answer::Refused(wrong(8, PLACE_PROFILES));
+        return Err(wrong(8, PLACE_PROFILES));
     }
-    let mut i: usize = 0;
-    while i < used {
+    for i in 0..used {
         if sort_at(table, i) == BIOP {
-            return Answer::Count(i);
+            return Ok(i);
         }
-        i += 1;
     }
-    Answer::Count(PROFILES)
+    Ok(PROFILES)
 }
 
 #[unsafe(no_mangle)]
 pub extern "C" fn ior_first_biop(table: &[u32], answer: &mut [u64]) -> u32
     ensures { IorFirstBiop table.now answer.old result answer.new }
 {
-    if !can_ask(table, answer.len()) {
+    let Some(table) = table.as_array::<SIZE>() else {
+        return NOT_ASKED;
+    };
+    let Some(answer) = answer.as_mut_array::<ANSWER>() else {
+        return NOT_ASKED;
+    };
+    if !is_exact(table) {
         return NOT_ASKED;
     }
     put_answer(first_of(table), answer)
@@ -412,41 +382,33 @@ pub extern "C" fn ior_first_biop(table: &[u32], answer: &mut [u64]) -> u32
 pub extern "C" fn ior_dvb_address(address: &[u8]) -> u32
     ensures { IorDvbAddress address.now result }
 {
-    if address.len() != 20 {
-        return NOT_ASKED;
+    match address.as_array::<20>() {
+        Some(octets) => u32::from(is_dvb(*octets)),
+        None => NOT_ASKED,
     }
-    let mut octets = [0u8; 20];
-    copy(address, 0, 20, &mut octets, 0);
-    if is_dvb(octets) {
-        return 1;
-    }
-    0
 }
 
 // ---- the name with lengths of one octet
 
-// The views of a name in an array of four numbers.
-fn put_views(name: NameComponent, out: &mut [u32])
-    requires { length out.old ≡ 4 }
-    ensures { out.new ≡ name_numbers name }
+// The views of a name as four numbers, and the name that such numbers tell.
+fn numbers_of_name(name: NameComponent) -> [u32; NAME]
+    ensures { result ≡ name_numbers name }
 {
-    let numbers = [name.id.at, name.id.len, name.kind.at, name.kind.len];
-    put_all(&numbers, out, 0);
+    [name.id.at, name.id.len, name.kind.at, name.kind.len]
 }
 
-// The name that such numbers tell.
-fn views_of(name: &[u32]) -> NameComponent
-    requires { length name.now ≡ 4 }
-    ensures { result ≡ name_from name.now 0 }
+fn name_of(numbers: &[u32; NAME]) -> NameComponent
+    ensures { result ≡ name_from numbers.now 0 }
 {
+    let [id_at, id_len, kind_at, kind_len] = *numbers;
     NameComponent {
         id: View {
-            at: name[0],
-            len: name[1],
+            at: id_at,
+            len: id_len,
         },
         kind: View {
-            at: name[2],
-            len: name[3],
+            at: kind_at,
+            len: kind_len,
         },
     }
 }
@@ -457,24 +419,20 @@ fn views_of(name: &[u32]) -> NameComponent
 pub extern "C" fn ior_name_read(s: &[u8], name: &mut [u32], answer: &mut [u64]) -> u32
     ensures { IorNameRead s.now name.old answer.old result answer.new name.new }
 {
-    if !is_sized(NAME, name.len(), answer.len()) {
+    let Some(name) = name.as_mut_array::<NAME>() else {
         return NOT_ASKED;
-    }
+    };
+    let Some(answer) = answer.as_mut_array::<ANSWER>() else {
+        return NOT_ASKED;
+    };
     match read_short_name(s) {
-        ShortNameRead::Got { name: found, next } => {
-            put_views(found, name);
-            put_answer(Answer::Count(next), answer)
+        Ok((found, next)) => {
+            *name = numbers_of_name(found);
+            put_answer(Ok(next), answer)
         }
-        ShortNameRead::Not { why } => {
-            let empty = View { at: 0, len: 0 };
-            put_views(
-                NameComponent {
-                    id: empty,
-                    kind: empty,
-                },
-                name,
-            );
-            put_answer(Answer::Refused(why), answer)
+        Err(why) => {
+            *name = [0; NAME];
+            put_answer(Err(why), answer)
         }
     }
 }
@@ -484,8 +442,11 @@ pub extern "C" fn ior_name_read(s: &[u8], name: &mut [u32], answer: &mut [u64]) 
 pub extern "C" fn ior_name_write(name: &[u32], s: &[u8], out: &mut [u8], answer: &mut [u64]) -> u32
     ensures { IorNameWrite name.now s.now out.old answer.old result answer.new out.new }
 {
-    if !is_sized(NAME, name.len(), answer.len()) {
+    let Some(name) = name.as_array::<NAME>() else {
         return NOT_ASKED;
-    }
-    put_answer(write_short_name(views_of(name), s, out), answer)
+    };
+    let Some(answer) = answer.as_mut_array::<ANSWER>() else {
+        return NOT_ASKED;
+    };
+    put_answer(write_short_name(name_of(name), s, out), answer)
 }

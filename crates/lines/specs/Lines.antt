@@ -1,18 +1,13 @@
 -- What each sort of answer is as text: the lines of the program `answers`. Assumes nothing.
-use Rattle.std.specs.Prelude.{ℕ, zero, suc, cond, List, [], ◌∷◌, ◌++◌, eqb, get_or}
+use Rattle.std.specs.Prelude.{ℕ, zero, suc, cond, List, [], ◌∷◌, ◌++◌, eqb, get_or, Option, Some, None, Result, Ok, Err}
 use Rattle.octets.specs.Octets.{octets}
 use Rattle.text.specs.Text.{decimal, hexes}
 use Rattle.reference.specs.declared.Refusal.{Refusal}
-use Rattle.reference.specs.declared.Answer.{Answer}
-use Rattle.reference.specs.declared.Answer.TheVariants as Answers
+use Rattle.reference.specs.Refusals.{Told as Answer}
 use Rattle.reference.specs.declared.ObjectKind.{ObjectKind}
 use Rattle.reference.specs.declared.ObjectKind.TheVariants as Kinds
 use Rattle.reference.specs.declared.TapNumbers.{TapNumbers}
-use Rattle.reference.specs.declared.TapNumbers.TheVariants as Numbers
-use Rattle.reference.specs.declared.FirstBiop.{FirstBiop}
-use Rattle.reference.specs.declared.FirstBiop.TheVariants as Firsts
-use Rattle.names.specs.declared.ShortNameRead.{ShortNameRead}
-use Rattle.names.specs.declared.ShortNameRead.TheVariants as Reads
+use Rattle.reference.specs.declared.NameComponent.{NameComponent}
 
 -- a space and a number
 abbrev pub spaced : ℕ → List ℕ
@@ -28,13 +23,13 @@ accepted_text n = 48 ∷ 32 ∷ 48 ∷ 32 ∷ 48 ∷ 32 ∷ 48 ∷ spaced n
 
 -- a refused answer has the count 0
 unfoldable pub answer_text : Answer → List ℕ
-answer_text (Answers.Count n) = accepted_text n
-answer_text (Answers.Refused r) = refusal_text r ++ (32 ∷ 48 ∷ [])
+answer_text (Ok n) = accepted_text n
+answer_text (Err r) = refusal_text r ++ (32 ∷ 48 ∷ [])
 
 -- the same with the offset where a reading broke, before the count
 unfoldable pub where_text : Answer → List ℕ
-where_text (Answers.Count n) = accepted_text 0 ++ spaced n
-where_text (Answers.Refused r) = refusal_text r ++ spaced r.offset ++ (32 ∷ 48 ∷ [])
+where_text (Ok n) = accepted_text 0 ++ spaced n
+where_text (Err r) = refusal_text r ++ spaced r.offset ++ (32 ∷ 48 ∷ [])
 
 -- ` i:v`, and nothing where v is 0
 unfoldable pub item_text : ℕ → ℕ → List ℕ
@@ -64,17 +59,17 @@ abbrev pub none : List ℕ
 none = 110 ∷ 111 ∷ 110 ∷ 101 ∷ []
 
 -- both numbers, or `none none`
-unfoldable pub tap_text : TapNumbers → List ℕ
-tap_text (Numbers.Both transaction timeout) = decimal transaction ++ spaced timeout
-tap_text Numbers.Neither = none ++ (32 ∷ none)
+unfoldable pub tap_text : Option TapNumbers → List ℕ
+tap_text (Some n) = decimal n.transaction ++ spaced n.timeout
+tap_text None = none ++ (32 ∷ none)
 
 -- octets consumed and both views; five times 0 where refused
-unfoldable pub name_text : ShortNameRead → List ℕ
-name_text (Reads.Got name next) = accepted_text next ++ spaced name.id.at ++ spaced name.id.len ++ spaced name.kind.at ++ spaced name.kind.len
-name_text (Reads.Not why) = refusal_text why ++ (32 ∷ 48 ∷ 32 ∷ 48 ∷ 32 ∷ 48 ∷ 32 ∷ 48 ∷ 32 ∷ 48 ∷ [])
+unfoldable pub name_text : Result (NameComponent × ℕ) Refusal → List ℕ
+name_text (Ok (name, next)) = accepted_text next ++ spaced name.id.at ++ spaced name.id.len ++ spaced name.kind.at ++ spaced name.kind.len
+name_text (Err why) = refusal_text why ++ (32 ∷ 48 ∷ 32 ∷ 48 ∷ 32 ∷ 48 ∷ 32 ∷ 48 ∷ 32 ∷ 48 ∷ [])
 
 -- the index, or `none`
-unfoldable pub first_text : FirstBiop → List ℕ
-first_text (Firsts.At i) = accepted_text i
-first_text Firsts.Nothing = 48 ∷ 32 ∷ 48 ∷ 32 ∷ 48 ∷ 32 ∷ 48 ∷ 32 ∷ none
-first_text (Firsts.Refused why) = refusal_text why ++ (32 ∷ none)
+unfoldable pub first_text : Result (Option ℕ) Refusal → List ℕ
+first_text (Ok (Some i)) = accepted_text i
+first_text (Ok None) = 48 ∷ 32 ∷ 48 ∷ 32 ∷ 48 ∷ 32 ∷ 48 ∷ 32 ∷ none
+first_text (Err why) = refusal_text why ++ (32 ∷ none)

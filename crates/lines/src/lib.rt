@@ -6,8 +6,7 @@ ghost use Rattle.std.specs.Prelude.{◌+◌, ◌*◌, ◌≤◌, length};
 ghost use Rattle.text.specs.Written.{Written};
 ghost use Rattle.lines.specs.Lines.{refusal_text, accepted_text, answer_text, where_text, item_text, table_text, output_text, kind_text, tap_text, name_text, first_text};
 
-use names::ShortNameRead;
-use reference::{Answer, FirstBiop, ObjectKind, Refusal, TapNumbers};
+use reference::{Answer, NameComponent, ObjectKind, Refusal, TapNumbers};
 use text::{put_decimal, put_hex32, put_hexes, put_octet, put_spaced, put_word};
 
 // Number, place and both figures of a refusal.
@@ -36,8 +35,8 @@ pub fn put_answer(out: &mut [u8], at: usize, answer: Answer) -> usize
     ensures { Written out.old at 85 (answer_text answer) out.new result }
 {
     match answer {
-        Answer::Count(count) => put_accepted(out, at, count),
-        Answer::Refused(why) => {
+        Ok(count) => put_accepted(out, at, count),
+        Err(why) => {
             let next = put_refusal(out, at, why);
             put_word(out, next, b" 0")
         }
@@ -50,11 +49,11 @@ pub fn put_where(out: &mut [u8], at: usize, answer: Answer) -> usize
     ensures { Written out.old at 106 (where_text answer) out.new result }
 {
     match answer {
-        Answer::Count(count) => {
+        Ok(count) => {
             let consumed = put_accepted(out, at, 0);
             put_spaced(out, consumed, count as u64)
         }
-        Answer::Refused(why) => {
+        Err(why) => {
             let offset = put_refusal(out, at, why);
             let zero = put_spaced(out, offset, why.offset as u64);
             put_word(out, zero, b" 0")
@@ -80,13 +79,9 @@ pub fn put_table(out: &mut [u8], at: usize, table: &[u32]) -> usize
     requires { at + 42 * length table.now ≤ length out.old }
     ensures { Written out.old at (42 * length table.now) (table_text table.now (length table.now)) out.new result }
 {
-    let n = table.len();
     let mut next = at;
-    let mut i: usize = 0;
-    while i < n {
-        let v = table[i];
-        next = put_item(out, next, i, v);
-        i += 1;
+    for (i, v) in table.iter().enumerate() {
+        next = put_item(out, next, i, *v);
     }
     next
 }
@@ -97,7 +92,7 @@ pub fn put_output(out: &mut [u8], at: usize, written: &[u8]) -> usize
     ensures { Written out.old at (2 + 2 * length written.now) (output_text written.now) out.new result }
 {
     let next = put_octet(out, at, b' ');
-    if written.len() == 0 {
+    if written.is_empty() {
         return put_octet(out, next, b'-');
     }
     put_hexes(out, next, written)
@@ -118,34 +113,31 @@ pub fn put_kind(out: &mut [u8], at: usize, kind: ObjectKind) -> usize
     }
 }
 
-// A tap's transaction id and timeout.
-pub fn put_tap(out: &mut [u8], at: usize, numbers: TapNumbers) -> usize
+// A tap's transaction id and timeout, if it has them.
+pub fn put_tap(out: &mut [u8], at: usize, numbers: Option<TapNumbers>) -> usize
     requires { at + 41 ≤ length out.old }
     ensures { Written out.old at 41 (tap_text numbers) out.new result }
 {
     match numbers {
-        TapNumbers::Neither => put_word(out, at, b"none none"),
-        TapNumbers::Both {
-            transaction,
-            timeout,
-        } => {
-            let next = put_decimal(out, at, transaction as u64);
-            put_spaced(out, next, timeout as u64)
+        None => put_word(out, at, b"none none"),
+        Some(both) => {
+            let next = put_decimal(out, at, both.transaction as u64);
+            put_spaced(out, next, both.timeout as u64)
         }
     }
 }
 
 // What reading an 8-bit name answers: octets consumed, and both views.
-pub fn put_name(out: &mut [u8], at: usize, name: ShortNameRead) -> usize
+pub fn put_name(out: &mut [u8], at: usize, name: Result<(NameComponent, usize), Refusal>) -> usize
     requires { at + 112 ≤ length out.old }
     ensures { Written out.old at 112 (name_text name) out.new result }
 {
     match name {
-        ShortNameRead::Not { why } => {
+        Err(why) => {
             let zeros = put_refusal(out, at, why);
             put_word(out, zeros, b" 0 0 0 0 0")
         }
-        ShortNameRead::Got { name: got, next } => {
+        Ok((got, next)) => {
             let id_at = put_accepted(out, at, next);
             let id_len = put_spaced(out, id_at, got.id.at as u64);
             let kind_at = put_spaced(out, id_len, got.id.len as u64);
@@ -156,14 +148,14 @@ pub fn put_name(out: &mut [u8], at: usize, name: ShortNameRead) -> usize
 }
 
 // The index of the first BIOP profile, or `none`.
-pub fn put_first(out: &mut [u8], at: usize, first: FirstBiop) -> usize
+pub fn put_first(out: &mut [u8], at: usize, first: Result<Option<usize>, Refusal>) -> usize
     requires { at + 88 ≤ length out.old }
     ensures { Written out.old at 88 (first_text first) out.new result }
 {
     match first {
-        FirstBiop::At(i) => put_accepted(out, at, i),
-        FirstBiop::Nothing => put_word(out, at, b"0 0 0 0 none"),
-        FirstBiop::Refused(why) => {
+        Ok(Some(i)) => put_accepted(out, at, i),
+        Ok(None) => put_word(out, at, b"0 0 0 0 none"),
+        Err(why) => {
             let none = put_refusal(out, at, why);
             put_word(out, none, b" none")
         }

@@ -1,15 +1,13 @@
 -- Octets FF, one by one. Assumes nothing.
 use Prim.Native.Nat.{ℕ, zero, suc, ◌+◌, ◌<◌}
 use mathlib.Core.Path.{◌≡◌, refl, sym, ap, ◌∙◌}
-use mathlib.Core.Logic.{◌≢◌}
 use mathlib.Core.List.{List, [], ◌∷◌, ◌++◌}
 use native.Mathlib.Numerals.{add-one}
-use native.Mathlib.Omega.{arith}
 use lib.ListN.{length, get_or}
 use lib.Dec.{lit<}
 use Rattle.octets.specs.Octets.{Octets, part}
 use Rattle.octets.specs.Blank.{blank}
-use Rattle.octets.proofs.Part.{part_get, part_more}
+use Rattle.octets.proofs.Part.{part_more}
 
 pub length_blank : (k : ℕ) → length (blank k) ≡ k
 length_blank zero = refl
@@ -26,16 +24,7 @@ blank_more k = ap blank (add-one k) ∙ go k
     go zero = refl
     go (suc k) = ap (λ (l : List ℕ). 0xFF ∷ l) (go k)
 
-blank_get : (k j : ℕ) → j < k → get_or (blank k) j 0 ≡ 0xFF
-blank_get zero j h = absurd (omega arith)
-blank_get (suc k) zero h = refl
-blank_get (suc k) (suc j) h = blank_get k j (omega arith)
-
 module _ (d : List ℕ) (at : ℕ) where
   -- one more
   pub goes_on_lem : (i : ℕ) → at + i < length d → part d at i ≡ blank i → get_or d (at + i) 0 ≡ 0xFF → part d at (i + 1) ≡ blank (i + 1)
   goes_on_lem i h p e = part_more d at i 0 h ∙ (λ j. p j ++ (e j ∷ [])) ∙ sym (blank_more i)
-
-  -- another octet
-  pub stops : (k i : ℕ) → i < k → get_or d (at + i) 0 ≢ 0xFF → part d at k ≢ blank k
-  stops k i h n e = n (part_get d at k i 0 h ∙ ap (λ (l : List ℕ). get_or l i 0) e ∙ blank_get k i h)

@@ -3,10 +3,10 @@
 // with 141 where nobody reads the output any more.
 #![tactic(auto)]
 
-ghost use Rattle.std.specs.Prelude.{◌≡◌, Ok, is_some, cond, MatchResult};
+ghost use Rattle.std.specs.Prelude.{◌≡◌, Err, Bool, is_some, cond};
 ghost use Rattle.std.specs.Process.{exit_status};
 ghost use Rattle.outcome.specs.Status.{status_of};
-ghost use Rattle.outcome.specs.declared.Outcome.TheVariants.{Done, NotWritten};
+ghost use Rattle.outcome.specs.declared.Failure.TheVariants.{NotWritten};
 
 use std::alloc::Global;
 use std::env::FillError;
@@ -18,13 +18,15 @@ use std::rt::Env;
 // The status where nobody reads the output any more: that of a program which the signal of a broken pipe ended.
 const UNREAD: u8 = 141;
 
+// Why a run ended before all was done.
 #[derive(Drop)]
-pub enum Outcome {
-    Done,
+pub enum Failure {
     Broken,
     NotRead(io::Error),
     NotWritten(io::Error),
 }
+
+pub type Outcome = Result<(), Failure>;
 
 // The program's argument, which then stands in `room`; none without one. One that is longer than a path can be has no name.
 pub fn input_name<'a>(rt: &impl Env, room: &'a mut [u8; 4096]) -> Option<&'a [u8]> {
@@ -74,7 +76,7 @@ fn say_not_read(err: &impl Print, alloc: Global, name: Option<&[u8]>, error: io:
 
 // The status of an output that can't be written, and on `err` why, if anybody reads it.
 fn tell_not_written(err: &impl Print, alloc: Global, error: io::Error, is_named: bool) -> ExitCode
-    ensures { exit_status result ≡ status_of is_named (NotWritten error) }
+    ensures { exit_status result ≡ status_of is_named (Err (NotWritten error)) }
 {
     if let ErrorKind::BrokenPipe = error.kind() {
         return ExitCode::from(UNREAD);
@@ -89,27 +91,23 @@ pub fn tell(err: &impl Print, alloc: Global, outcome: Outcome, name: Option<&[u8
 {
     let is_named = name.is_some();
     match outcome {
-        Outcome::Done => tell_status(0, is_named),
-        Outcome::Broken => tell_status(1, is_named),
-        Outcome::NotRead(error) => {
+        Ok(()) => tell_status(0, is_named),
+        Err(Failure::Broken) => tell_status(1, is_named),
+        Err(Failure::NotRead(error)) => {
             say_not_read(err, alloc, name, error);
             tell_status(2, is_named)
         }
-        Outcome::NotWritten(error) => tell_not_written(err, alloc, error, is_named),
+        Err(Failure::NotWritten(error)) => tell_not_written(err, alloc, error, is_named),
     }
 }
 
-// The outcome of a program that only writes.
-pub fn tell_written(
-    err: &impl Print,
-    alloc: Global,
-    written: io::Result<()>,
-    name: Option<&[u8]>,
-) -> ExitCode
-    ensures { MatchResult written (λ _. exit_status result ≡ status_of (is_some name.entry) Done) (λ e. exit_status result ≡ status_of (is_some name.entry) (NotWritten e)) }
+// A whole program: runs it, and tells its outcome by the name that its argument gives the input.
+pub fn run_named<F: FnOnce() -> Outcome>(rt: &HostRuntime, run: F) -> ExitCode
+    requires { F.IsAlwaysCallable run }
+    ensures { (outcome : _) × F.post run outcome × ((named : Bool) × (exit_status result ≡ status_of named outcome)) }
 {
-    match written {
-        Ok(()) => tell(err, alloc, Outcome::Done, name),
-        Err(error) => tell(err, alloc, Outcome::NotWritten(error), name),
-    }
+    let mut room = [0u8; 4096];
+    let name = input_name(rt, &mut room);
+    let outcome = run();
+    tell(&rt.stderr(), rt.alloc(), outcome, name)
 }

@@ -1,1 +1,1 @@
-pub mod Inked
+pub mod Table

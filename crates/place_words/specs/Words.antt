@@ -1,8 +1,7 @@
 -- Document 01's places in words. Assumes nothing.
-use Rattle.std.specs.Prelude.{ℕ, suc, ◌&&◌, List, [], ◌∷◌, map, eqb, get_or}
+use Rattle.std.specs.Prelude.{ℕ, List, [], ◌∷◌, map, get_or}
 use Prim.Native.String.{String}
 use Rattle.text.specs.Text.{ascii}
-use Rattle.reference.specs.Steps.{pick}
 
 -- by place, from 0 on; 0 is the data that a length announced
 abbrev pub place_words : List String
@@ -31,8 +30,3 @@ place_words =
 -- as text; nothing for a number that is no place
 abbrev pub place_text : ℕ → List ℕ
 place_text place = get_or (map ascii place_words) place []
-
--- how many octets there are up to the last one that is no blank
-unfoldable pub inked : List ℕ → ℕ
-inked [] = 0
-inked (x ∷ xs) = pick (eqb x 32 && eqb (inked xs) 0) 0 (suc (inked xs))

@@ -2,52 +2,35 @@
 // Each contract says what the answer is in the terms of reference's specs/Questions.
 #![tactic(auto)]
 
-ghost use Rattle.std.specs.Prelude.{◌≡◌, [], ◌<◌, eqb, get_or};
-ghost use Rattle.octets.specs.Octets.{be};
-ghost use Rattle.reference.specs.Questions.{is_biop, kinds, kind_numbered, kind_of, tap_numbers_of, first_biop, dvb_address};
+ghost use Rattle.std.specs.Prelude.{◌≡◌};
+ghost use Rattle.reference.specs.Questions.{kind_numbered, kind_of, tap_numbers_of, first_biop, dvb_address};
 
 use octets::{be24, be32, octet};
 use reference::{
-    FirstBiop, NsapAddress, ObjectKind, PLACE_PROFILES, PROFILES, Profile, Tables, TaggedProfile,
-    TapNumbers, wrong,
+    NsapAddress, ObjectKind, PLACE_PROFILES, PROFILES, Refusal, Tables, TaggedProfile, TapNumbers,
+    wrong,
 };
 
-// The five kinds, in the order in which they are searched: three letters and a zero octet.
-const KINDS: [[u8; 4]; 5] = [*b"dir\0", *b"fil\0", *b"str\0", *b"srg\0", *b"ste\0"];
+// The five kinds, in the order in which they are searched: three letters and a zero octet, and what they name.
+const KINDS: [([u8; 4], ObjectKind); 5] = [
+    (*b"dir\0", ObjectKind::Directory),
+    (*b"fil\0", ObjectKind::File),
+    (*b"str\0", ObjectKind::Stream),
+    (*b"srg\0", ObjectKind::ServiceGateway),
+    (*b"ste\0", ObjectKind::StreamEvent),
+];
 
 const USE_DELIVERY: u16 = 0x0016;
 
-// The kind that a row of KINDS names.
-fn kind_at(row: usize) -> ObjectKind
-    requires { row < 5 }
-    ensures { result ≡ (get_or kinds row ([], ObjectKind.Unknown 0)).1 }
-{
-    match row {
-        0 => ObjectKind::Directory,
-        1 => ObjectKind::File,
-        2 => ObjectKind::Stream,
-        3 => ObjectKind::ServiceGateway,
-        _ => ObjectKind::StreamEvent,
-    }
-}
-
-// Whether a row's four octets are those of n: compared at once, as the number that they write.
-fn row_is(row: [u8; 4], n: u32) -> bool
-    ensures { result ≡ eqb n (be row) }
-{
-    n == be32(&row, 0)
-}
-
-// The kind of the first row that has the octets of n, or unknown with it.
+// The kind of the first row that has the octets of n, or unknown with it. A row's four octets are compared at once, as the number that
+// they write.
 fn kind_numbered(n: u32) -> ObjectKind
     ensures { result ≡ kind_numbered n }
 {
-    let mut i: usize = 0;
-    while i < KINDS.len() {
-        if row_is(KINDS[i], n) {
-            return kind_at(i);
+    for (row, kind) in &KINDS {
+        if n == be32(row, 0) {
+            return *kind;
         }
-        i += 1;
     }
     ObjectKind::Unknown(n)
 }
@@ -63,59 +46,30 @@ pub fn object_kind(type_id: &[u8]) -> ObjectKind
 }
 
 // The two numbers that a tap of this use says in its selector's octets; never refused.
-pub fn tap_numbers(use_: u16, selector: &[u8]) -> TapNumbers
+pub fn tap_numbers(use_: u16, selector: &[u8]) -> Option<TapNumbers>
     ensures { result ≡ tap_numbers_of use_ selector.now }
 {
-    if use_ != USE_DELIVERY {
-        return TapNumbers::Neither;
+    if use_ != USE_DELIVERY || selector.len() < 10 {
+        return None;
     }
-    if selector.len() < 10 {
-        return TapNumbers::Neither;
-    }
-    let transaction = be32(selector, 2);
-    let timeout = be32(selector, 6);
-    TapNumbers::Both {
-        transaction,
-        timeout,
-    }
-}
-
-fn is_biop(p: Profile) -> bool
-    ensures { result ≡ is_biop p.body }
-{
-    let body = p.body;
-    match body {
-        TaggedProfile::Opaque { tag: _, data: _ } => false,
-        TaggedProfile::Biop {
-            location: _,
-            taps: _,
-            extras: _,
-        } => true,
-        TaggedProfile::LiteOptions {
-            address: _,
-            names: _,
-            context: _,
-            extras: _,
-        } => false,
-    }
+    Some(TapNumbers {
+        transaction: be32(selector, 2),
+        timeout: be32(selector, 6),
+    })
 }
 
 // The first BIOP profile among the used ones; 8 if more are used than the table has.
-pub fn first_biop(t: Tables) -> FirstBiop
+pub fn first_biop(t: Tables) -> Result<Option<usize>, Refusal>
     ensures { result ≡ first_biop t }
 {
     let used = t.profiles_used as usize;
     if PROFILES < used {
-        return FirstBiop::Refused(wrong(8, PLACE_PROFILES));
+        return Err(wrong(8, PLACE_PROFILES));
     }
-    let mut i: usize = 0;
-    while i < used {
-        if is_biop(t.profiles[i]) {
-            return FirstBiop::At(i);
-        }
-        i += 1;
-    }
-    FirstBiop::Nothing
+    let first = t.profiles[..used]
+        .iter()
+        .position(|p| matches!(p.body, TaggedProfile::Biop { .. }));
+    Ok(first)
 }
 
 // Whether an address of twenty octets bears the four constants of its kind, and DVB's organisation number as its specifier data.

@@ -10,34 +10,25 @@ use borrow.Author.Tests.{lt-ltb, le-ltb, eq-eqb, ne_eqb}
 use mir.Syntax.{w8}
 use mir.Val.{Fits}
 use lib.ListN.{length, get_or, length-append}
+use Rattle.std.specs.Prelude.{Result, Ok, Err, IsErrAnd}
 use Rattle.octets.specs.Octets.{be, part}
 use Rattle.octets.proofs.Inverse.{length_octets}
 use Rattle.reference.specs.declared.Refusal.{Refusal}
 use Rattle.reference.specs.Meaning.{Location, Biop, biop}
 use Rattle.reference.specs.Layout.{tag_location, tag_binder, layout_location, tagged}
-use Rattle.reference.specs.Refusals.{cut_at, left_at, long_at}
+use Rattle.reference.specs.Refusals.{Told, cut_at, left_at, long_at}
 use Rattle.reference.specs.Steps.{Answer, ok, refused, seen, need, number, run, done, ending, after}
 use Rattle.reference.specs.Reader.{read_count, read_location, read_object_location, read_biop, read_biop_fixed}
 use Rattle.reference.specs.Heads.{read_part, read_binder_head, read_biop_head, read_biop_rest}
 use Rattle.reference.specs.Places.{place_biop_components, place_biop_fixed, place_biop_order, place_location_fixed, place_location_header, place_location_leftover, place_location_tag, place_binder_header, place_binder_tag, place_tap_count}
 use Rattle.reference.proofs.Parts.{object_location_reads}
-use Rattle.reference.proofs.Steps.{followed_followed}
-use Rattle.reference.proofs.Heads.{biop_cut, part_known, component_no, component_data, opened_no, opened_data, count_cut, count_read}
+use Rattle.reference.proofs.Steps.{passed_on, followed_followed}
+use Rattle.reference.proofs.Heads.{biop_cut, component_no, component_data, opened_no, opened_data, count_cut, count_read}
 use Rattle.table.specs.declared.Counts.{Counts}
-use Rattle.read_parts.specs.declared.BodyRead.{BodyRead}
-use Rattle.read_parts.specs.declared.BodyRead.TheVariants as Bodies
-use Rattle.read_parts.specs.declared.Ended.{Ended}
-use Rattle.read_parts.specs.declared.Ended.TheVariants as Ends
-use Rattle.read_parts.specs.declared.FixedRead.{FixedRead}
-use Rattle.read_parts.specs.declared.FixedRead.TheVariants as Fixed
-use Rattle.read_parts.specs.Told.{fixed_told, StoresBody}
+use Rattle.read_parts.specs.Told.{fixed_told, part_told, StoresBody}
 use Rattle.read_parts.proofs.Fixed.{fixed_known}
 use Rattle.read_parts.proofs.Moves.{octets_of_slice, moved}
-use Rattle.read_biop.specs.Told.{part_told, location_of, location_told, head_of, read_from_binder}
-
--- what stands in a component's data stands before the end
-pub data_inside : (tag header spot : ℕ) (d : List ℕ) (pos end : ℕ) (r : Ended) → part_told pos r ≡ read_part 1 tag header spot d pos end → {stop k : ℕ} → r ≡ Ends.At stop → k ≤ stop → k ≤ end
-data_inside tag header spot d pos end r e q h = omega (arith, (part_known 1 tag header spot d pos end (sym e ∙ ap (part_told pos) q)).2)
+use Rattle.read_biop.specs.Told.{location_of, location_told, head_of, read_from_binder}
 
 -- ---- the ObjectLocation: its fields, which stand at 7 and must end at stop, and its component
 
@@ -63,18 +54,18 @@ module _ (d : List ℕ) (stop : ℕ) where
       unfolding ending read_location need number run done
       fields_read h = let k : 16 + n - 16 ≡ n = omega arith in simp (← size, k, le-ltb, eq-eqb)
 
-module _ (d : List ℕ) (r : Ended) (e : part_told 2 r ≡ read_part 1 tag_location place_location_header place_location_tag d 2 (length d)) where
-  pub part_no : {x : Refusal} → r ≡ Ends.Not x → refused x ≡ read_object_location d 2 (length d)
+module _ (d : List ℕ) (r : Told) (e : part_told 1 2 r ≡ read_part 1 tag_location place_location_header place_location_tag d 2 (length d)) where
+  pub part_no : {x : Refusal} → r ≡ Err x → (w : Told) → IsErrAnd w (λ y. y ≡ x) → location_told d w ≡ read_object_location d 2 (length d)
   unfolding read_object_location
-  part_no q = sym (component_no 1 tag_location place_location_header place_location_tag d 2 (length d) _ (sym e ∙ ap (part_told 2) q))
+  part_no q w p = ap (location_told d) (passed_on w p) ∙ sym (component_no 1 tag_location place_location_header place_location_tag d 2 (length d) _ (sym e ∙ ap (part_told 1 2) q))
 
-  pub part_data : {stop : ℕ} {x : Answer Location} → r ≡ Ends.At stop → x ≡ fields_told d stop → x ≡ read_object_location d 2 (length d)
+  pub part_data : {stop : ℕ} {x : Answer Location} → r ≡ Ok stop → x ≡ fields_told d stop → x ≡ read_object_location d 2 (length d)
   unfolding read_object_location
-  part_data q f = f ∙ sym (component_data 1 tag_location place_location_header place_location_tag d 2 (length d) _ (sym e ∙ ap (part_told 2) q))
+  part_data q f = f ∙ sym (component_data 1 tag_location place_location_header place_location_tag d 2 (length d) _ (sym e ∙ ap (part_told 1 2) q))
 
 -- ---- what is known where the ConnBinder stands
 
-module _ (d : List ℕ) (octs : (k : ℕ) → Fits w8 (get_or d k 0)) (r : FixedRead) (e : fixed_told r ≡ read_biop_fixed d 0 (length d)) {c : ℕ} (q : r ≡ Fixed.Got c) where
+module _ (d : List ℕ) (octs : (k : ℕ) → Fits w8 (get_or d k 0)) (r : Told) (e : fixed_told r ≡ read_biop_fixed d 0 (length d)) {c : ℕ} (q : r ≡ Ok c) where
   counted : (2 ≤ length d) × (2 ≤ c) × (c < 256)
   counted =
       let (two, least, small, at) = fixed_known 2 place_biop_fixed place_biop_order place_biop_components d (length d) (octets_of_slice d (λ k. (octs k).fits)) (omega arith) (sym e ∙ ap fixed_told q) in
@@ -86,7 +77,7 @@ module _ (d : List ℕ) (octs : (k : ℕ) → Fits w8 (get_or d k 0)) (r : Fixed
   pub extras_few : c - 2 ≤ 255
   extras_few = omega (arith, counted.2)
 
-  module _ (v : Ended) (f : location_told d v ≡ read_object_location d 2 (length d)) {next : ℕ} (n : v ≡ Ends.At next) where
+  module _ (v : Told) (f : location_told d v ≡ read_object_location d 2 (length d)) {next : ℕ} (n : v ≡ Ok next) where
     spanned : (next ≤ length d) × (next ≡ 2 + length (tagged 1 tag_location (layout_location (location_of d next))))
     spanned = moved object_location_reads d 2 (length d) (octets_of_slice d (λ k. (octs k).fits)) counted.0 (omega arith) (sym f ∙ ap (location_told d) n)
 
@@ -100,43 +91,43 @@ module _ (d : List ℕ) (octs : (k : ℕ) → Fits w8 (get_or d k 0)) (r : Fixed
 -- ---- the data, stored into t as profile i: that left t'
 
 module _ (at : ℕ) (t : List ℕ) (i : ℕ) (u : Counts) (d t' : List ℕ) where
-  abbrev Stored : Answer Biop → BodyRead → Type 0
+  abbrev Stored : Answer Biop → Result Counts Refusal → Type 0
   Stored x v = StoresBody at t i u (seen (λ b. biop b) x) (length d) t' v
 
   -- from the ConnBinder on, which stands at pos
-  module _ (extras pos : ℕ) (r : Ended) (e : part_told pos r ≡ read_part 1 tag_binder place_binder_header place_binder_tag d pos (length d)) where
-    pub binder_no : {x : Refusal} → r ≡ Ends.Not x → Stored (read_from_binder extras d pos (length d)) (Bodies.Not x)
+  module _ (extras pos : ℕ) (r : Told) (e : part_told 1 pos r ≡ read_part 1 tag_binder place_binder_header place_binder_tag d pos (length d)) where
+    pub binder_no : {x : Refusal} → r ≡ Err x → (w : Result Counts Refusal) → IsErrAnd w (λ y. y ≡ x) → Stored (read_from_binder extras d pos (length d)) w
     unfolding read_from_binder read_binder_head after
-    binder_no q = record { told = rw (opened_no 1 tag_binder place_binder_header place_binder_tag d pos (length d) (read_count 1 place_tap_count) (sym e ∙ ap (part_told pos) q)) }
+    binder_no q w p = record { told = rw (passed_on w p, opened_no 1 tag_binder place_binder_header place_binder_tag d pos (length d) (read_count 1 place_tap_count) (sym e ∙ ap (part_told 1 pos) q)) }
 
-    module _ {stop : ℕ} (q : r ≡ Ends.At stop) where
-      pub count_short : {x : Refusal} → x ≡ cut_at place_tap_count (pos + 5) 1 stop → stop < pos + 5 + 1 → Stored (read_from_binder extras d pos (length d)) (Bodies.Not x)
+    module _ {stop : ℕ} (q : r ≡ Ok stop) where
+      pub count_short : {x : Refusal} → x ≡ cut_at place_tap_count (pos + 5) 1 stop → stop < pos + 5 + 1 → Stored (read_from_binder extras d pos (length d)) (Err x)
       unfolding read_from_binder read_binder_head after
       count_short c h =
-          record { told = rw (c, opened_data 1 tag_binder place_binder_header place_binder_tag d pos (length d) (read_count 1 place_tap_count) (sym e ∙ ap (part_told pos) q), count_cut) }
+          record { told = rw (c, opened_data 1 tag_binder place_binder_header place_binder_tag d pos (length d) (read_count 1 place_tap_count) (sym e ∙ ap (part_told 1 pos) q), count_cut) }
 
-      pub binder_read : {n : ℕ} {v : BodyRead} → n ≡ be (part d (pos + 5) 1) → pos + 5 + 1 ≤ stop
+      pub binder_read : {n : ℕ} {v : Result Counts Refusal} → n ≡ be (part d (pos + 5) 1) → pos + 5 + 1 ≤ stop
           → Stored (read_biop_rest (head_of d (record { binder = pos; stop = stop; taps = n; extras = extras })) d (pos + 6) (length d)) v → Stored (read_from_binder extras d pos (length d)) v
       unfolding read_from_binder read_binder_head after
       binder_read n h s =
           record {
             told =
                 rw
-                (opened_data 1 tag_binder place_binder_header place_binder_tag d pos (length d) (read_count 1 place_tap_count) (sym e ∙ ap (part_told pos) q), count_read, ← n, add_assoc pos 5 1)
+                (opened_data 1 tag_binder place_binder_header place_binder_tag d pos (length d) (read_count 1 place_tap_count) (sym e ∙ ap (part_told 1 pos) q), count_read, ← n, add_assoc pos 5 1)
                 s.told;
           }
 
   -- from the start on
-  module _ (r : FixedRead) (e : fixed_told r ≡ read_biop_fixed d 0 (length d)) where
-    pub fixed_no : {x : Refusal} → r ≡ Fixed.Not x → Stored (read_biop d 0 (length d)) (Bodies.Not x)
+  module _ (r : Told) (e : fixed_told r ≡ read_biop_fixed d 0 (length d)) where
+    pub fixed_no : {x : Refusal} → r ≡ Err x → (w : Result Counts Refusal) → IsErrAnd w (λ y. y ≡ x) → Stored (read_biop d 0 (length d)) w
     unfolding read_biop_head after
-    fixed_no q = record { told = rw (biop_cut, sym e ∙ ap fixed_told q) }
+    fixed_no q w p = record { told = rw (passed_on w p, biop_cut, sym e ∙ ap fixed_told q) }
 
-    module _ {c : ℕ} (q : r ≡ Fixed.Got c) (v : Ended) (f : location_told d v ≡ read_object_location d 2 (length d)) where
-      pub location_no : {x : Refusal} → v ≡ Ends.Not x → Stored (read_biop d 0 (length d)) (Bodies.Not x)
+    module _ {c : ℕ} (q : r ≡ Ok c) (v : Told) (f : location_told d v ≡ read_object_location d 2 (length d)) where
+      pub location_no : {x : Refusal} → v ≡ Err x → (w : Result Counts Refusal) → IsErrAnd w (λ y. y ≡ x) → Stored (read_biop d 0 (length d)) w
       unfolding read_biop_head after
-      location_no n = record { told = rw (biop_cut, sym e ∙ ap fixed_told q, sym f ∙ ap (location_told d) n) }
+      location_no n w p = record { told = rw (passed_on w p, biop_cut, sym e ∙ ap fixed_told q, sym f ∙ ap (location_told d) n) }
 
-      pub located : {next : ℕ} {w : BodyRead} → v ≡ Ends.At next → Stored (read_from_binder (c - 2) d next (length d)) w → Stored (read_biop d 0 (length d)) w
+      pub located : {next : ℕ} {w : Result Counts Refusal} → v ≡ Ok next → Stored (read_from_binder (c - 2) d next (length d)) w → Stored (read_biop d 0 (length d)) w
       unfolding read_biop_head read_from_binder after done
       located n s = record { told = rw (biop_cut, sym e ∙ ap fixed_told q, sym f ∙ ap (location_told d) n) (simp followed_followed s.told) }

@@ -7,6 +7,7 @@ use native.Mathlib.Omega.{arith}
 use mir.Syntax.{w8}
 use mir.Val.{Fits}
 use lib.ListN.{length, get_or, length-append}
+use Rattle.std.specs.Prelude.{Result, Ok, Err, IsErrAnd}
 use Rattle.octets.specs.Octets.{joined, part, splice}
 use Rattle.octets.proofs.Inverse.{length_octets}
 use Rattle.octets.proofs.Part.{length_part}
@@ -14,6 +15,7 @@ use Rattle.reference.specs.declared.ObjectLocation.{ObjectLocation}
 use Rattle.reference.specs.declared.Refusal.{Refusal}
 use Rattle.reference.specs.declared.TaggedProfile.{TaggedProfile}
 use Rattle.reference.specs.declared.TaggedProfile.TheVariants as Sort
+use Rattle.reference.specs.Refusals.{Told}
 use Rattle.reference.specs.Meaning.{Tap, Extra, Biop, biop}
 use Rattle.reference.specs.Layout.{layout_tap, layout_extra, layout_location, layout_binder}
 use Rattle.reference.specs.Steps.{Answer, ok, seen, after, done, many}
@@ -22,7 +24,7 @@ use Rattle.reference.specs.Heads.{before, read_biop_rest}
 use Rattle.reference.specs.Placed.{placed, tap_at, extra_at, location_at, body_at, to_location, to_taps, to_biop_extras}
 use Rattle.reference.specs.Places.{place_binder_leftover, place_biop_extra, place_biop_leftover}
 use Rattle.reference.proofs.Parts.{tap_reads, extra_reads}
-use Rattle.reference.proofs.Steps.{ending_at}
+use Rattle.reference.proofs.Steps.{passed_on, ending_at}
 use Rattle.table.specs.declared.Counts.{Counts}
 use Rattle.table.specs.Region.{stored}
 use Rattle.table.specs.Region as Region
@@ -30,10 +32,6 @@ use Rattle.table.specs.Flat.{profile_region, tap_region, extra_region, body_numb
 use Rattle.table.specs.Filed.{profile_filed}
 use Rattle.table.proofs.Filed.{filed_biop}
 use Rattle.table.proofs.Stored.{stored_in, stored_out}
-use Rattle.read_parts.specs.declared.BodyRead.{BodyRead}
-use Rattle.read_parts.specs.declared.BodyRead.TheVariants as Bodies
-use Rattle.read_parts.specs.declared.Ended.{Ended}
-use Rattle.read_parts.specs.declared.Ended.TheVariants as Ends
 use Rattle.read_parts.specs.Told.{StoresTaps, StoresExtras, body_kept, StoresBody}
 use Rattle.read_parts.proofs.Fills.{told_no, told_ok}
 use Rattle.read_parts.proofs.Moves.{octets_of_slice, run_moved}
@@ -61,7 +59,7 @@ module _ (d : List ℕ) (next : ℕ) (low : 16 ≤ next) (inside : next ≤ leng
 
 -- the profile's header stands at offset at, its data 8 octets on
 module _ (at : ℕ) (t : List ℕ) (i : ℕ) (u : Counts) (d : List ℕ) (h : Head) where
-  abbrev Stored : List ℕ → BodyRead → Type 0
+  abbrev Stored : List ℕ → Result Counts Refusal → Type 0
   Stored t' v = StoresBody at t i u (seen (λ b. biop b) (read_biop_rest (head_of d h) d (h.binder + 6) (length d))) (length d) t' v
 
   -- its own entry, and the counts after it
@@ -76,25 +74,25 @@ module _ (at : ℕ) (t : List ℕ) (i : ℕ) (u : Counts) (d : List ℕ) (h : He
   unfolding after before done
   rest_read e f = rw (e, f)
 
-  module _ {t₁ : List ℕ} {v : Ended} (taps : StoresTaps (at + 8 + (h.binder + 6)) t u.taps (read_taps h.taps d (h.binder + 6) h.stop) t₁ v) where
-    pub taps_inside : {mid : ℕ} → v ≡ Ends.At mid → h.stop ≤ length d → mid ≤ length d
+  module _ {t₁ : List ℕ} {v : Told} (taps : StoresTaps (at + 8 + (h.binder + 6)) t u.taps (read_taps h.taps d (h.binder + 6) h.stop) t₁ v) where
+    pub taps_inside : {mid : ℕ} → v ≡ Ok mid → h.stop ≤ length d → mid ≤ length d
     taps_inside q inside =
         let (ts, e, s) = told_ok taps q in
         omega (arith, ending_at place_binder_leftover (many h.taps read_tap) d (h.binder + 6) h.stop e)
 
-    pub no_taps_lem : {x : Refusal} {t' : List ℕ} → v ≡ Ends.Not x → Stored t' (Bodies.Not x)
+    pub no_taps_lem : {x : Refusal} {t' : List ℕ} → v ≡ Err x → (r : Result Counts Refusal) → IsErrAnd r (λ y. y ≡ x) → Stored t' r
     unfolding after before
-    no_taps_lem q = record { told = rw (told_no taps q) }
+    no_taps_lem q r p = record { told = rw (passed_on r p, told_no taps q) }
 
-    module _ {mid : ℕ} {t₂ : List ℕ} {w : Ended} (q : v ≡ Ends.At mid) (extras : StoresExtras (at + 8 + mid) t₁ u.extras (read_biop_extras h.extras d mid (length d)) t₂ w) where
-      pub no_extras_lem : {x : Refusal} {t' : List ℕ} → w ≡ Ends.Not x → Stored t' (Bodies.Not x)
+    module _ {mid : ℕ} {t₂ : List ℕ} {w : Told} (q : v ≡ Ok mid) (extras : StoresExtras (at + 8 + mid) t₁ u.extras (read_biop_extras h.extras d mid (length d)) t₂ w) where
+      pub no_extras_lem : {x : Refusal} {t' : List ℕ} → w ≡ Err x → (r : Result Counts Refusal) → IsErrAnd r (λ y. y ≡ x) → Stored t' r
       unfolding after before
-      no_extras_lem p = let (ts, e, s) = told_ok taps q in record { told = rw (e, told_no extras p) }
+      no_extras_lem p r o = let (ts, e, s) = told_ok taps q in record { told = rw (passed_on r o, e, told_no extras p) }
 
-      module _ {last : ℕ} {t₃ : List ℕ} (p : w ≡ Ends.At last) (octs : (k : ℕ) → Fits w8 (get_or d k 0)) (low : 16 ≤ h.binder) (first : h.binder + 6 ≤ h.stop)
+      module _ {last : ℕ} {t₃ : List ℕ} (p : w ≡ Ok last) (octs : (k : ℕ) → Fits w8 (get_or d k 0)) (low : 16 ≤ h.binder) (first : h.binder + 6 ≤ h.stop)
           (inside : h.stop ≤ length d) (long : Lent t) where
         -- what was read stands where the definition says, and is as much
-        all_filed : t₃ ≡ stored profile_region t₂ i (entry (location_at (at + to_location) (location_of d h.binder)) ∷ []) → Stored t₃ (Bodies.Got counts)
+        all_filed : t₃ ≡ stored profile_region t₂ i (entry (location_at (at + to_location) (location_of d h.binder)) ∷ []) → Stored t₃ (Ok counts)
         all_filed s₃ =
             let (ts, e, s₁) = told_ok taps q in
             let (es, f, s₂) = told_ok extras p in
@@ -117,10 +115,10 @@ module _ (at : ℕ) (t : List ℕ) (i : ℕ) (u : Counts) (d : List ℕ) (h : He
             }
 
         pub filed_in : {l : ObjectLocation} {t' : List ℕ} → LocationIn d (at + 8) h.binder l → i < profile_region.size → t' ≡ splice t₂ (Region.entry profile_region i) (body_numbers (entry l)) → t₃ ≡ t'
-            → Stored t₃ (Bodies.Got counts)
+            → Stored t₃ (Ok counts)
         filed_in l room e s =
             let same = location_placed d h.binder low (omega arith) at l in
             all_filed (stored_in profile_region t₂ i _ room (s ∙ e ∙ ap (λ (x : ObjectLocation). splice t₂ (Region.entry profile_region i) (body_numbers (entry x))) same))
 
-        pub filed_out : 8 ≤ i → t₃ ≡ t₂ → Stored t₃ (Bodies.Got counts)
+        pub filed_out : 8 ≤ i → t₃ ≡ t₂ → Stored t₃ (Ok counts)
         filed_out full s = all_filed (stored_out profile_region t₂ i _ full s)

@@ -1,3 +1,3 @@
-pub mod Names
+pub mod Context
 pub mod Beginning
 pub mod Rest

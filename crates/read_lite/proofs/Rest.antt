@@ -7,6 +7,7 @@ use native.Mathlib.Omega.{arith}
 use mir.Syntax.{w8}
 use mir.Val.{Fits}
 use lib.ListN.{length, get_or, length-append}
+use Rattle.std.specs.Prelude.{Result, Ok, Err, IsErrAnd}
 use Rattle.octets.specs.Octets.{joined, splice}
 use Rattle.octets.proofs.Inverse.{length_octets}
 use Rattle.reference.specs.declared.Refusal.{Refusal}
@@ -15,7 +16,8 @@ use Rattle.reference.specs.declared.TaggedProfile.TheVariants as Sort
 use Rattle.reference.specs.declared.View.{View}
 use Rattle.reference.specs.Meaning.{Name, Extra, Address, Service, Lite, lite}
 use Rattle.reference.specs.Layout.{layout_name, layout_extra, layout_service}
-use Rattle.reference.specs.Steps.{Answer, ok, seen, after, done, many}
+use Rattle.reference.specs.Refusals.{Told}
+use Rattle.reference.specs.Steps.{Answer, answer_of, ok, seen, after, done, many}
 use Rattle.reference.specs.Reader.{read_run, read_name, read_context, read_lite_extras}
 use Rattle.reference.specs.Heads.{before, read_lite_rest}
 use Rattle.reference.specs.Placed.{placed, view, name_at, extra_at, address_at, body_at, to_names, to_context, to_lite_extras}
@@ -23,7 +25,7 @@ use Rattle.reference.specs.Places.{place_context_length, place_lite_extra, place
 use Rattle.reference.proofs.Laws.{reads_many, fills_ending}
 use Rattle.reference.proofs.Parts.{run_reads, name_reads, extra_reads}
 use Rattle.reference.proofs.Shown.{length_address}
-use Rattle.reference.proofs.Steps.{seen_ok, seen_no, ending_at}
+use Rattle.reference.proofs.Steps.{passed_on, seen_ok, seen_no, ending_at}
 use Rattle.table.specs.declared.Counts.{Counts}
 use Rattle.table.specs.Region.{stored}
 use Rattle.table.specs.Region as Region
@@ -31,17 +33,11 @@ use Rattle.table.specs.Flat.{profile_region, name_region, extra_region, body_num
 use Rattle.table.specs.Filed.{profile_filed}
 use Rattle.table.proofs.Filed.{filed_lite}
 use Rattle.table.proofs.Stored.{stored_in, stored_out}
-use Rattle.read_parts.specs.declared.BodyRead.{BodyRead}
-use Rattle.read_parts.specs.declared.BodyRead.TheVariants as Bodies
-use Rattle.read_parts.specs.declared.Ended.{Ended}
-use Rattle.read_parts.specs.declared.Ended.TheVariants as Ends
-use Rattle.read_parts.specs.Told.{StoresNames, StoresExtras, body_kept, StoresBody}
+use Rattle.read_parts.specs.Told.{StoresNames, StoresExtras, body_told, body_kept, StoresBody}
 use Rattle.read_parts.proofs.Fills.{told_no, told_ok}
-use Rattle.read_parts.proofs.Moves.{octets_of_slice, moved, run_moved}
+use Rattle.read_parts.proofs.Moves.{octets_of_slice, run_moved}
 use Rattle.read_lite.specs.declared.Head.{Head}
-use Rattle.read_lite.specs.declared.RunRead.{RunRead}
-use Rattle.read_lite.specs.declared.RunRead.TheVariants as Runs
-use Rattle.read_lite.specs.Told.{run_told, headed}
+use Rattle.read_lite.specs.Told.{headed}
 
 service_length_lem : (s : Service) → length (layout_service s) ≡ 29 + length (joined (map layout_name s.names)) + length s.context
 unfolding layout_service
@@ -49,21 +45,15 @@ service_length_lem s = simp (length-append, length_octets, length_address) (omeg
 
 -- the profile's header stands at offset at, its data 8 octets on, the first name 35 octets into that
 module _ (at : ℕ) (t : List ℕ) (i : ℕ) (u : Counts) (d : List ℕ) (h : Head) where
-  module _ {t₁ : List ℕ} {v : Ended} (names : StoresNames (at + 8 + 35) t u.names (many h.names read_name d 35 h.stop) t₁ v) where
-    pub names_inside : {mid : ℕ} → v ≡ Ends.At mid → ((k : ℕ) → Fits w8 (get_or d k 0)) → 35 ≤ h.stop → h.stop ≤ length d → mid ≤ h.stop
-    names_inside q octs first inside =
-        let (ns, e, s) = told_ok names q in
-        (moved (reads_many name_reads h.names) d 35 h.stop (octets_of_slice d (λ k. (octs k).fits)) first inside e).0
-
-  pub context_inside : (r : RunRead) (mid : ℕ) {next : ℕ} {w : View} → run_told r ≡ seen (view (at + 8 + mid + 4)) (read_context d mid h.stop) → r ≡ Runs.Got w next → h.stop ≤ length d → next ≤ length d
+  pub context_inside : (r : Result (View × ℕ) Refusal) (mid : ℕ) {next : ℕ} {w : View} → answer_of r ≡ seen (view (at + 8 + mid + 4)) (read_context d mid h.stop) → r ≡ Ok (w, next) → h.stop ≤ length d → next ≤ length d
   unfolding read_context
   context_inside r mid e p inside =
-      let (x, f, w) = seen_ok (view (at + 8 + mid + 4)) (read_context d mid h.stop) (sym e ∙ ap run_told p) in
+      let (x, f, w) = seen_ok (view (at + 8 + mid + 4)) (read_context d mid h.stop) (sym e ∙ ap answer_of p) in
       omega (arith, ending_at place_service_leftover (read_run 4 place_context_length) d mid h.stop f)
 
   -- the address that the head shows
   module _ (a : Address) (shown : address_at a ≡ h.address) where
-    abbrev Stored : List ℕ → BodyRead → Type 0
+    abbrev Stored : List ℕ → Result Counts Refusal → Type 0
     Stored t' v = StoresBody at t i u (seen (λ l. lite l) (read_lite_rest (headed h a) d 35 (length d))) (length d) t' v
 
     rest_read : {ns : List Name} {x : List ℕ} {es : List Extra} {mid next last : ℕ} → many h.names read_name d 35 h.stop ≡ ok ns mid → read_context d mid h.stop ≡ ok x next
@@ -72,24 +62,24 @@ module _ (at : ℕ) (t : List ℕ) (i : ℕ) (u : Counts) (d : List ℕ) (h : He
     unfolding after before done
     rest_read e c f = rw (e, c, f)
 
-    module _ {t₁ : List ℕ} {v : Ended} (names : StoresNames (at + 8 + 35) t u.names (many h.names read_name d 35 h.stop) t₁ v) where
-      pub no_names_lem : {x : Refusal} {t' : List ℕ} → v ≡ Ends.Not x → Stored t' (Bodies.Not x)
+    module _ {t₁ : List ℕ} {v : Told} (names : StoresNames (at + 8 + 35) t u.names (many h.names read_name d 35 h.stop) t₁ v) where
+      pub no_names_lem : {x : Refusal} {t' : List ℕ} → v ≡ Err x → (b : Result Counts Refusal) → IsErrAnd b (λ y. y ≡ x) → Stored t' b
       unfolding after before
-      no_names_lem q = record { told = rw (told_no names q) }
+      no_names_lem {x} {t'} q b k = record { told = ap (body_told (length d) t') (passed_on b k) ∙ rw (told_no names q) }
 
-      module _ {mid : ℕ} (q : v ≡ Ends.At mid) (r : RunRead) (context : run_told r ≡ seen (view (at + 8 + mid + 4)) (read_context d mid h.stop)) where
-        pub no_context : {x : Refusal} {t' : List ℕ} → r ≡ Runs.Not x → Stored t' (Bodies.Not x)
+      module _ {mid : ℕ} (q : v ≡ Ok mid) (r : Result (View × ℕ) Refusal) (context : answer_of r ≡ seen (view (at + 8 + mid + 4)) (read_context d mid h.stop)) where
+        pub no_context : {x : Refusal} {t' : List ℕ} → r ≡ Err x → (b : Result Counts Refusal) → IsErrAnd b (λ y. y ≡ x) → Stored t' b
         unfolding after before
-        no_context p = let (ns, e, s) = told_ok names q in record { told = rw (e, seen_no (view (at + 8 + mid + 4)) (read_context d mid h.stop) (sym context ∙ ap run_told p)) }
+        no_context {x} {t'} p b k = let (ns, e, s) = told_ok names q in record { told = ap (body_told (length d) t') (passed_on b k) ∙ rw (e, seen_no (view (at + 8 + mid + 4)) (read_context d mid h.stop) (sym context ∙ ap answer_of p)) }
 
-        module _ {w : View} {next : ℕ} {t₂ : List ℕ} {z : Ended} (p : r ≡ Runs.Got w next) (extras : StoresExtras (at + 8 + next) t₁ u.extras (read_lite_extras h.extras d next (length d)) t₂ z)
+        module _ {w : View} {next : ℕ} {t₂ : List ℕ} {z : Told} (p : r ≡ Ok (w, next)) (extras : StoresExtras (at + 8 + next) t₁ u.extras (read_lite_extras h.extras d next (length d)) t₂ z)
           where
             context_read : (x : List ℕ) × (read_context d mid h.stop ≡ ok x next) × (w ≡ view (at + 8 + mid + 4) x)
-            context_read = seen_ok (view (at + 8 + mid + 4)) _ (sym context ∙ ap run_told p)
+            context_read = seen_ok (view (at + 8 + mid + 4)) _ (sym context ∙ ap answer_of p)
 
-            pub no_extras_lem : {x : Refusal} {t' : List ℕ} → z ≡ Ends.Not x → Stored t' (Bodies.Not x)
+            pub no_extras_lem : {x : Refusal} {t' : List ℕ} → z ≡ Err x → (b : Result Counts Refusal) → IsErrAnd b (λ y. y ≡ x) → Stored t' b
             unfolding after before
-            no_extras_lem g = let (ns, e, s) = told_ok names q in record { told = rw (e, context_read.1, told_no extras g) }
+            no_extras_lem {x} {t'} g b k = let (ns, e, s) = told_ok names q in record { told = ap (body_told (length d) t') (passed_on b k) ∙ rw (e, context_read.1, told_no extras g) }
 
             -- its own entry, and the counts after it
             abbrev entry : TaggedProfile
@@ -98,9 +88,9 @@ module _ (at : ℕ) (t : List ℕ) (i : ℕ) (u : Counts) (d : List ℕ) (h : He
             abbrev counts : Counts
             counts = record { taps = u.taps; names = u.names + h.names; extras = u.extras + h.extras }
 
-            module _ {last : ℕ} {t₃ : List ℕ} (g : z ≡ Ends.At last) (octs : (k : ℕ) → Fits w8 (get_or d k 0)) (first : 35 ≤ h.stop) (inside : h.stop ≤ length d) (long : Lent t) where
+            module _ {last : ℕ} {t₃ : List ℕ} (g : z ≡ Ok last) (octs : (k : ℕ) → Fits w8 (get_or d k 0)) (first : 35 ≤ h.stop) (inside : h.stop ≤ length d) (long : Lent t) where
               -- what was read stands where the definition says, and is as much
-              all_filed : t₃ ≡ stored profile_region t₂ i (entry ∷ []) → Stored t₃ (Bodies.Got counts)
+              all_filed : t₃ ≡ stored profile_region t₂ i (entry ∷ []) → Stored t₃ (Ok counts)
               unfolding read_context
               all_filed s₃ =
                   let (ns, e, s₁) = told_ok names q in
@@ -128,8 +118,8 @@ module _ (at : ℕ) (t : List ℕ) (i : ℕ) (u : Counts) (d : List ℕ) (h : He
                         ∙ ap (λ (y : Answer Lite). body_kept at t i u (seen (λ l. lite l) y)) (sym (rest_read e c f));
                   }
 
-              pub filed_in : {t' : List ℕ} → i < profile_region.size → t' ≡ splice t₂ (Region.entry profile_region i) (body_numbers entry) → t₃ ≡ t' → Stored t₃ (Bodies.Got counts)
+              pub filed_in : {t' : List ℕ} → i < profile_region.size → t' ≡ splice t₂ (Region.entry profile_region i) (body_numbers entry) → t₃ ≡ t' → Stored t₃ (Ok counts)
               filed_in room y s = all_filed (stored_in profile_region t₂ i entry room (s ∙ y))
 
-              pub filed_out : 8 ≤ i → t₃ ≡ t₂ → Stored t₃ (Bodies.Got counts)
+              pub filed_out : 8 ≤ i → t₃ ≡ t₂ → Stored t₃ (Ok counts)
               filed_out full s = all_filed (stored_out profile_region t₂ i entry full s)

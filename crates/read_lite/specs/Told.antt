@@ -1,32 +1,16 @@
--- What the readers of LiteOptions data tell, in the definition's words: a run, a name, an address, the head up to the first name, and what is
--- left behind it. Assumes nothing.
-use Rattle.std.specs.Prelude.{ℕ, ◌+◌, ◌≡◌, List, length}
+-- What the readers of LiteOptions data tell, in the definition's words: an address, the head up to the first name, and what is left behind
+-- it. Assumes nothing.
+use Rattle.std.specs.Prelude.{ℕ, ◌+◌, ◌≡◌, List, length, Result, Ok, Err}
 use Rattle.octets.specs.Octets.{be, part}
-use Rattle.reference.specs.declared.View.{View}
-use Rattle.reference.specs.declared.NameComponent.{NameComponent}
 use Rattle.reference.specs.declared.NsapAddress.{NsapAddress}
+use Rattle.reference.specs.declared.Refusal.{Refusal}
 use Rattle.reference.specs.Meaning.{Address, lite}
 use Rattle.reference.specs.Steps.{Answer, ok, refused, seen}
 use Rattle.reference.specs.Heads.{ServiceHead, LiteHead, read_lite_rest}
 use Rattle.reference.specs.Placed.{address_at}
 use Rattle.table.specs.declared.Counts.{Counts}
-use Rattle.read_parts.specs.declared.BodyRead.{BodyRead}
 use Rattle.read_parts.specs.Told.{StoresBody}
-use Rattle.read_lite.specs.declared.RunRead.{RunRead}
-use Rattle.read_lite.specs.declared.RunRead.TheVariants as Runs
-use Rattle.read_lite.specs.declared.NameRead.{NameRead}
-use Rattle.read_lite.specs.declared.NameRead.TheVariants as Names
 use Rattle.read_lite.specs.declared.Head.{Head}
-use Rattle.read_lite.specs.declared.HeadRead.{HeadRead}
-use Rattle.read_lite.specs.declared.HeadRead.TheVariants as Heads
-
-abbrev pub run_told : RunRead → Answer View
-run_told (Runs.Got v next) = ok v next
-run_told (Runs.Not x) = refused x
-
-abbrev pub name_told : NameRead → Answer NameComponent
-name_told (Names.Got n next) = ok n next
-name_told (Names.Not x) = refused x
 
 -- what varies in the address whose twenty octets stand at pos
 pub record AddressIn (d : List ℕ) (pos : ℕ) (a : NsapAddress) : Type 0 where
@@ -40,9 +24,9 @@ pub record AddressIn (d : List ℕ) (pos : ℕ) (a : NsapAddress) : Type 0 where
 
 -- ---- the head: what is known before the first name, which stands at 35
 
-abbrev pub head_told : HeadRead → Answer Head
-head_told (Heads.Got h) = ok h 35
-head_told (Heads.Not x) = refused x
+abbrev pub head_told : Result Head Refusal → Answer Head
+head_told (Ok h) = ok h 35
+head_told (Err x) = refused x
 
 -- of a ServiceLocation that ends at stop, with so many extras behind it
 abbrev pub head_of : ℕ → ℕ → ServiceHead → Head
@@ -58,6 +42,6 @@ abbrev pub headed : Head → Address → LiteHead
 headed h a = record { address = a; names = h.names; extras = h.extras; stop = h.stop }
 
 -- it was stored into t as profile i, whose header stands at offset at, for any address that the head shows: that left e, and ended as v
-abbrev pub StoresRest : ℕ → List ℕ → ℕ → Counts → Head → List ℕ → List ℕ → BodyRead → Type 0
+abbrev pub StoresRest : ℕ → List ℕ → ℕ → Counts → Head → List ℕ → List ℕ → Result Counts Refusal → Type 0
 StoresRest at t i u h d e v =
     (a : Address) → address_at a ≡ h.address → StoresBody at t i u (seen (λ l. lite l) (read_lite_rest (headed h a) d 35 (length d))) (length d) e v

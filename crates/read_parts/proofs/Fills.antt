@@ -6,24 +6,18 @@ use mathlib.Core.List.{List, [], ◌∷◌}
 use mathlib.Core.Logic.{◌≢◌}
 use native.Mathlib.Nat.{add_assoc, add-zero, sub-zero}
 use native.Mathlib.Omega.{arith}
-use mir.Syntax.{w8}
-use mir.Val.{Fits}
-use lib.Dec.{T, leb, leb→le}
-use lib.ListN.{length, get_or}
-use Rattle.octets.specs.Octets.{splice}
+use lib.ListN.{length}
 use Rattle.reference.specs.declared.Refusal.{Refusal}
-use Rattle.reference.specs.Steps.{Answer, ok, refused, Reader, followed, seen, many, ending}
+use Rattle.reference.specs.Steps.{Answer, ok, refused, answer_of, Reader, followed, seen, many, ending}
 use Rattle.reference.specs.Refusals.{left_at}
 use Rattle.reference.specs.Placed.{placed}
-use Rattle.reference.proofs.Laws.{Reads}
-use Rattle.reference.proofs.Steps.{seen_ok, seen_no, ending_no, ending_left, ending_ok}
-use Rattle.table.specs.Region.{Region, entry, past, stored}
+use Rattle.reference.proofs.Steps.{passed_on, seen_ok, seen_no, ending_no, ending_left, ending_ok}
+use Rattle.table.specs.Region.{Region, past, stored}
 use Rattle.table.specs.Flat.{table_size, Lent}
-use Rattle.table.proofs.Stored.{stored_none, stored_append, stored_length, stored_in, stored_out}
-use Rattle.read_parts.specs.declared.Ended.{Ended}
-use Rattle.read_parts.specs.declared.Ended.TheVariants as Ends
-use Rattle.read_parts.specs.Told.{kept, ended, Stores}
-use Rattle.read_parts.proofs.Moves.{octets_of_slice, moved}
+use Rattle.table.proofs.Stored.{stored_none, stored_append, stored_length}
+use Rattle.std.specs.Prelude.{Result, Ok, Err, IsErrAnd}
+use Rattle.reference.specs.Refusals.{Told}
+use Rattle.read_parts.specs.Told.{Moves, kept, ended, Stores}
 
 -- an answer is not both
 not_both : {A : Type 0} {x : Refusal} {a : A} {n : ℕ} → refused x ≡ ok a n → ⊥
@@ -80,7 +74,7 @@ module _ {A E : Type 0} {g : Region E} {f : ℕ → A → E} {lay : A → List �
   none_yet h = record { inside = h; most = omega arith; long = refl; same = rw (sub-zero, add-zero) }
 
   module _ {t : List ℕ} {cur i : ℕ} (h : Fills g f lay r d base end n pos t₀ first t cur i) where
-    abbrev Ran : Answer (List A) → Ended → Type 0
+    abbrev Ran : Answer (List A) → Told → Type 0
     Ran x v = Stores g f lay (base + pos) t₀ first x t v
 
     left_is : (m : ℕ) → n - i ≡ m → leaves g f lay r d base end n pos t₀ first ≡ leaves g f lay r d base end m cur t (first + i)
@@ -92,46 +86,31 @@ module _ {A E : Type 0} {g : Region E} {f : ℕ → A → E} {lay : A → List �
       were_read =
           kept_ok g f lay (base + pos) t₀ first (many n r d pos end) (left_is 0 (omega arith) ∙ leaves_end g f lay r d base end cur t (first + i))
 
-      pub all_read : Ran (many n r d pos end) (Ends.At cur)
+      pub all_read : Ran (many n r d pos end) (Ok cur)
       all_read = let (l, e, s) = were_read in record { told = ap (λ (x : List ℕ). ok x cur) s ∙ ap (kept g f lay (base + pos) t₀ first) (sym e) }
 
-      module _ (place : ℕ) where
-        pub ending_left_over : {x : Refusal} → x ≡ left_at place cur end → cur ≢ end → Ran (ending place (many n r) d pos end) (Ends.Not x)
-        ending_left_over p ne =
-            let (l, e, s) = were_read in
-            record { told = ap refused p ∙ ap (kept g f lay (base + pos) t₀ first) (sym (ending_left d pos end place (many n r) e ne)) }
-
-        pub ending_all_read : cur ≡ end → Ran (ending place (many n r) d pos end) (Ends.At cur)
-        ending_all_read q =
-            let (l, e, s) = were_read in
-            record { told = ap₂ (λ (x : List ℕ) (p : ℕ). ok x p) s q ∙ ap (kept g f lay (base + pos) t₀ first) (sym (ending_ok d pos end place (many n r) (e ∙ ap (ok l) q))) }
-
 -- a turn: what the code was told
-module _ {E R : Type 0} (told : R → Answer E) {A : Type 0} {g : Region E} {f : ℕ → A → E} {lay : A → List ℕ} {r : Reader A} {d : List ℕ} {base end n pos first : ℕ} {t₀ t : List ℕ}
-    {cur i : ℕ} (h : Fills g f lay r d base end n pos t₀ first t cur i) (v : R) (read : told v ≡ seen (f (base + cur)) (r d cur end)) (l : i < n)
+module _ {E : Type 0} {A : Type 0} {g : Region E} {f : ℕ → A → E} {lay : A → List ℕ} {r : Reader A} {d : List ℕ} {base end n pos first : ℕ} {t₀ t : List ℕ} {cur i : ℕ}
+    (h : Fills g f lay r d base end n pos t₀ first t cur i) (v : Result (E × ℕ) Refusal) (read : answer_of v ≡ seen (f (base + cur)) (r d cur end)) (l : i < n)
   where
-    turn_no : (w : R) {x : Refusal} → v ≡ w → told w ≡ refused x → many n r d pos end ≡ refused x
-    turn_no w q e =
+    turn_no : {x : Refusal} → v ≡ Err x → many n r d pos end ≡ refused x
+    turn_no q =
         kept_no g f lay (base + pos) t₀ first (many n r d pos end)
         (left_is h (suc (n - (i + 1))) (omega arith)
-        ∙ leaves_not g f lay r d base end (n - (i + 1)) cur t (first + i) (seen_no (f (base + cur)) _ (sym read ∙ ap told q ∙ e)))
+        ∙ leaves_not g f lay r d base end (n - (i + 1)) cur t (first + i) (seen_no (f (base + cur)) _ (sym read ∙ ap answer_of q)))
 
-    pub one_no : (w : R) {x : Refusal} → v ≡ w → told w ≡ refused x → Ran h (many n r d pos end) (Ends.Not x)
-    one_no w q e = record { told = ap (kept g f lay (base + pos) t₀ first) (sym (turn_no w q e)) }
+    pub one_no : {x : Refusal} → v ≡ Err x → (w : Told) → IsErrAnd w (λ y. y ≡ x) → Ran h (many n r d pos end) w
+    one_no q w p = record { told = ap (ended t) (passed_on w p) ∙ ap (kept g f lay (base + pos) t₀ first) (sym (turn_no q)) }
 
-    pub ending_one_no : (place : ℕ) (w : R) {x : Refusal} → v ≡ w → told w ≡ refused x → Ran h (ending place (many n r) d pos end) (Ends.Not x)
-    ending_one_no place w q e = record { told = ap (kept g f lay (base + pos) t₀ first) (sym (ending_no d pos end place (many n r) (turn_no w q e))) }
-
--- an entry more, of which it is told by `got`
-module _ {E R : Type 0} (told : R → Answer E) (got : E → ℕ → R) (tells : (e : E) (m : ℕ) → told (got e m) ≡ ok e m) {A : Type 0} {r : Reader A} {lay : A → List ℕ} {good : A → Type 0}
-    (reads : Reads 0 r lay good) {g : Region E} {f : ℕ → A → E} {d : List ℕ} {base end n pos first : ℕ} {t₀ t : List ℕ} {cur i : ℕ} (h : Fills g f lay r d base end n pos t₀ first t cur i)
-    (v : R) (read : told v ≡ seen (f (base + cur)) (r d cur end)) (l : i < n) {e : E} {next cur' : ℕ} {t' : List ℕ} (octs : (k : ℕ) → Fits w8 (get_or d k 0)) (fits : end ≤ length d)
-    (lent : Lent t₀) (held : T (leb (past g) table_size)) (q : v ≡ got e next) (c : cur' ≡ next) where
-  one_more : t' ≡ stored g t (first + i) (e ∷ []) → Fills g f lay r d base end n pos t₀ first t' cur' (i + 1)
+-- an entry more
+module _ {E A : Type 0} (g : Region E) (r : Reader A) (lay : A → List ℕ) {f : ℕ → A → E} {d : List ℕ} {base end n pos first : ℕ} {t₀ t : List ℕ} {cur i : ℕ}
+    (h : Fills g f lay r d base end n pos t₀ first t cur i) (v : Result (E × ℕ) Refusal) (read : answer_of v ≡ seen (f (base + cur)) (r d cur end)) (moves : Moves r lay d cur end) (l : i < n)
+    {e : E} {next cur' : ℕ} {t' : List ℕ} (lent : Lent t₀) (fits : past g ≤ table_size) (q : v ≡ Ok (e, next)) (c : cur' ≡ next) where
+  pub one_more : t' ≡ stored g t (first + i) (e ∷ []) → Fills g f lay r d base end n pos t₀ first t' cur' (i + 1)
   one_more s =
-      let (a, p, ev) = seen_ok (f (base + cur)) (r d cur end) (sym read ∙ ap told q ∙ tells e next) in
-      let (inside, span) = moved reads d cur end (octets_of_slice d (λ k. (octs k).fits)) h.inside fits p in
-      let k : past g ≤ length t = omega (arith, h.long, leb→le (past g) table_size held) in
+      let (a, p, ev) = seen_ok (f (base + cur)) (r d cur end) (sym read ∙ ap answer_of q) in
+      let (inside, span) = moves a next p in
+      let k : past g ≤ length t = omega (arith, h.long) in
       let s' = s ∙ ap (λ (x : E). stored g t (first + i) (x ∷ [])) ev in
       record {
         inside = omega arith;
@@ -143,16 +122,27 @@ module _ {E R : Type 0} (told : R → Answer E) (got : E → ℕ → R) (tells :
             ∙ ap₂ (λ (x : List ℕ) (j : ℕ). leaves g f lay r d base end (n - (i + 1)) cur' x j) (sym s') (add_assoc first i 1);
       }
 
-  pub one_in : {t'' : List ℕ} → first + i < g.size → t'' ≡ splice t (entry g (first + i)) (g.numbers e) → t' ≡ t'' → Fills g f lay r d base end n pos t₀ first t' cur' (i + 1)
-  one_in room p s = one_more (stored_in g t (first + i) e room (s ∙ p))
-
-  pub one_out : g.size ≤ first + i → t' ≡ t → Fills g f lay r d base end n pos t₀ first t' cur' (i + 1)
-  one_out full s = one_more (stored_out g t (first + i) e full s)
-
 -- what a caller knows in each arm of its match
-module _ {A E : Type 0} {g : Region E} {f : ℕ → A → E} {lay : A → List ℕ} {at k : ℕ} {t e : List ℕ} {x : Answer (List A)} {v : Ended} (h : Stores g f lay at t k x e v) where
-  pub told_no : {y : Refusal} → v ≡ Ends.Not y → x ≡ refused y
+module _ {A E : Type 0} {g : Region E} {f : ℕ → A → E} {lay : A → List ℕ} {at k : ℕ} {t e : List ℕ} {x : Answer (List A)} {v : Told} (h : Stores g f lay at t k x e v) where
+  pub told_no : {y : Refusal} → v ≡ Err y → x ≡ refused y
   told_no q = kept_no g f lay at t k x (sym h.told ∙ ap (ended e) q)
 
-  pub told_ok : {n : ℕ} → v ≡ Ends.At n → (l : List A) × (x ≡ ok l n) × (e ≡ stored g t k (placed f lay at l))
+  pub told_ok : {n : ℕ} → v ≡ Ok n → (l : List A) × (x ≡ ok l n) × (e ≡ stored g t k (placed f lay at l))
   told_ok q = kept_ok g f lay at t k x (sym h.told ∙ ap (ended e) q)
+
+-- the same run, which must reach the end
+module _ {A E : Type 0} {g : Region E} {f : ℕ → A → E} {lay : A → List ℕ} {at k : ℕ} {t e : List ℕ} (n : ℕ) (r : Reader A) (d : List ℕ) (pos end : ℕ) {v : Told}
+    (h : Stores g f lay at t k (many n r d pos end) e v) (place : ℕ) where
+  pub ending_not : {x : Refusal} → v ≡ Err x → (w : Told) → IsErrAnd w (λ y. y ≡ x) → Stores g f lay at t k (ending place (many n r) d pos end) e w
+  ending_not q w p = record { told = ap (ended e) (passed_on w p) ∙ ap (kept g f lay at t k) (sym (ending_no d pos end place (many n r) (told_no h q))) }
+
+  module _ {last : ℕ} (q : v ≡ Ok last) where
+    pub ending_left_over : {x : Refusal} → x ≡ left_at place last end → last ≢ end → Stores g f lay at t k (ending place (many n r) d pos end) e (Err x)
+    ending_left_over p ne =
+        let (l, m, s) = told_ok h q in
+        record { told = ap refused p ∙ ap (kept g f lay at t k) (sym (ending_left d pos end place (many n r) m ne)) }
+
+    pub ending_all_read : last ≡ end → Stores g f lay at t k (ending place (many n r) d pos end) e (Ok last)
+    ending_all_read z =
+        let (l, m, s) = told_ok h q in
+        record { told = ap₂ (λ (x : List ℕ) (p : ℕ). ok x p) s z ∙ ap (kept g f lay at t k) (sym (ending_ok d pos end place (many n r) (m ∙ ap (ok l) z))) }

@@ -1,16 +1,20 @@
--- The header of a component whose length has w octets, one law for each case of the code. Assumes nothing.
+-- The header of a component whose length has w octets, one law for each case of the code; and where what stands in its data is. Assumes
+-- nothing.
 use Prim.Native.Nat.{ℕ, ◌+◌, ◌-◌, ◌<◌, ◌≤◌}
-use mathlib.Core.Path.{◌≡◌, ap}
+use mathlib.Core.Path.{◌≡◌, sym, ap, ◌∙◌}
 use mathlib.Core.List.{List}
 use mathlib.Core.Logic.{◌≢◌}
 use native.Mathlib.Nat.{add_assoc}
 use native.Mathlib.Omega.{arith}
 use borrow.Author.Tests.{lt-ltb, le-ltb, eq-eqb, ne_eqb}
+use Rattle.std.specs.Prelude.{Ok}
 use Rattle.octets.specs.Octets.{be, part}
 use Rattle.reference.specs.declared.Refusal.{Refusal}
-use Rattle.reference.specs.Refusals.{cut_at, long_at, wrong_at}
+use Rattle.reference.specs.Refusals.{Told, cut_at, long_at, wrong_at}
 use Rattle.reference.specs.Steps.{Answer, ok, refused, need, checked, number, within}
 use Rattle.reference.specs.Heads.{edge, read_part}
+use Rattle.reference.proofs.Heads.{part_known}
+use Rattle.read_parts.specs.Told.{part_told}
 
 module _ (w tag header spot : ℕ) (d : List ℕ) (pos end : ℕ) where
   abbrev told : Answer ℕ
@@ -33,3 +37,7 @@ module _ (w tag header spot : ℕ) (d : List ℕ) (pos end : ℕ) where
       pub header_read : n ≤ end - (pos + (4 + w)) → ok (pos + (4 + w) + n) (pos + (4 + w)) ≡ told
       unfolding read_part need checked number within edge
       header_read h = simp (add_assoc, ← found, ← size, le-ltb, eq-eqb) (ap (λ (x : ℕ). ok x (pos + (4 + w))) (omega arith))
+
+  -- what stands in a component's data stands before the end
+  pub data_inside : (r : Told) → part_told w pos r ≡ told → {stop k : ℕ} → r ≡ Ok stop → k ≤ stop → k ≤ end
+  data_inside r e q h = omega (arith, (part_known w tag header spot d pos end (sym e ∙ ap (part_told w pos) q)).2)

@@ -4,7 +4,7 @@ use mathlib.Core.Path.{◌≡◌, sym, ◌∙◌}
 use mathlib.Core.List.{List}
 use Rattle.reference.specs.declared.TypeIdRule.{TypeIdRule}
 use Rattle.reference.specs.declared.Reading.{Reading}
-use Rattle.reference.specs.declared.Answer.{Answer as Told}
+use Rattle.reference.specs.Refusals.{Told}
 use Rattle.reference.specs.Meaning.{Reference}
 use Rattle.reference.specs.Steps.{Answer}
 use Rattle.reference.specs.Reader.{read_leading, read_whole, answered}

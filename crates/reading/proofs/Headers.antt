@@ -21,15 +21,17 @@ use Rattle.octets.specs.Blank.{blank, IsBlank}
 use Rattle.octets.proofs.Blank.{length_blank, blank_octets}
 use Rattle.reference.specs.declared.Refusal.{Refusal}
 use Rattle.reference.specs.declared.View.{View}
-use Rattle.reference.specs.declared.Check.{Check}
-use Rattle.reference.specs.declared.Check.TheVariants.{Pass, Refuse}
+use Rattle.reference.specs.Refusals.{refusal, Check}
+use Rattle.std.specs.Prelude.{Result, Ok, Err, IsErrAnd}
 use Rattle.reference.specs.Layout.{allowed, gap_length}
 use Rattle.reference.specs.Places.{place_profile_header, place_reference_fixed, place_type_id_length, place_profile_count, place_gap_value, place_gap}
 use Rattle.reference.specs.Refusals.{refusal, cut_at, long_at, wrong_at}
 use Rattle.reference.specs.Steps.{Answer, ok, refused, need, number, checked, run, fits, after, done}
 use Rattle.reference.specs.Reader.{read_count, read_gap}
 use Rattle.reference.specs.Heads.{Header, read_header, read_head}
-use Rattle.reading.specs.Open.{opening, LengthKnown, GapIn, Opens}
+use Rattle.reference.proofs.Steps.{passed_on}
+use Rattle.reading.specs.declared.Opening.{Opening}
+use Rattle.reading.specs.Open.{opening, LengthKnown, GapIn, Opens, HeadIn}
 
 -- ---- the header of a profile
 
@@ -41,14 +43,14 @@ module _ (d : List ℕ) (pos end : ℕ) where
   unfolding read_header need
   header_cut e h = simp (e, lt-ltb)
 
-  module _ {t n : ℕ} (tag : t ≡ be (part d pos 4)) (size : n ≡ be (part d (pos + 4) 4)) (room : pos + 8 ≤ end) where
+  module _ {n : ℕ} (size : n ≡ be (part d (pos + 4) 4)) (room : pos + 8 ≤ end) where
     pub header_over : {x : Refusal} → x ≡ long_at (pos + 8) n end → end - (pos + 8) < n → refused x ≡ header
     unfolding read_header need number fits
     header_over e h = simp (e, add_assoc, ← size, le-ltb, lt-ltb)
 
-    pub header_read : n ≤ end - (pos + 8) → ok (record { tag = t; size = n }) (pos + 8) ≡ header
+    pub header_read : {t : ℕ} → t ≡ be (part d pos 4) → n ≤ end - (pos + 8) → ok (record { tag = t; size = n }) (pos + 8) ≡ header
     unfolding read_header need number fits done
-    header_read h = simp (add_assoc, ← tag, ← size, le-ltb)
+    header_read tag h = simp (add_assoc, ← tag, ← size, le-ltb)
 
 -- ---- what stands before the profiles: the length of the type id
 
@@ -80,15 +82,19 @@ module _ (rule : TypeIdRule) (d : List ℕ) where
         pub head_length : n ≤ length d - 4 → LengthKnown rule d n
         head_length h = record { small = small; room = room; size = size; allowed = right; fits = h }
 
+  -- what is handed on
+  refused_as : {x : Refusal} → No x → (w : Result Opening Refusal) → IsErrAnd w (λ y. y ≡ x) → HeadIn rule d w
+  refused_as e w p = subst (HeadIn rule d) (sym (passed_on w p)) e
+
 -- ---- its gap
 
 module _ (rule : TypeIdRule) (n : ℕ) (d : List ℕ) (at : ℕ) {k : ℕ} (few : k ≡ gap_length rule n) where
-  pub gap_cut : {x : Refusal} → x ≡ cut_at place_gap at k (length d) → length d < at + k → GapIn rule n d at (Refuse x)
+  pub gap_cut : {x : Refusal} → x ≡ cut_at place_gap at k (length d) → length d < at + k → GapIn rule n d at (Err x)
   unfolding read_gap need
   gap_cut e h = simp (e, ← few, lt-ltb)
 
   module _ (room : at + k ≤ length d) (b : Bool) (a : IsBlank d at k b) where
-    pub gap_wrong : {x : Refusal} → ((i : ℕ) → Fits w8 (get_or d i 0)) → x ≡ wrong_at 3 place_gap_value at → b ≡ false → GapIn rule n d at (Refuse x)
+    pub gap_wrong : {x : Refusal} → ((i : ℕ) → Fits w8 (get_or d i 0)) → x ≡ wrong_at 3 place_gap_value at → b ≡ false → GapIn rule n d at (Err x)
     unfolding read_gap need checked
     gap_wrong o e h =
         let no : part d at k ≢ blank k = subst (IsBlank d at k) h a in
@@ -101,14 +107,14 @@ module _ (rule : TypeIdRule) (n : ℕ) (d : List ℕ) (at : ℕ) {k : ℕ} (few 
         be_blank o p =
             sym (octets_be (part d at k) (octets_part d at k o)) ∙ (λ j. octets ((length_part d at k room ∙ sym (length_blank k)) j) (p j)) ∙ octets_be (blank k) (blank_octets k)
 
-    pub gap_right : b ≡ true → GapIn rule n d at Pass
+    pub gap_right : b ≡ true → GapIn rule n d at (Ok tt)
     unfolding read_gap need checked number done
     gap_right h =
         let yes : part d at k ≡ blank k = subst (IsBlank d at k) h a in
         let q : eqb (be (blank k)) (be (blank k)) ≡ true = eq-eqb (be (blank k)) (be (blank k)) refl in
         (simp (← few, yes, le-ltb, q), omega arith)
 
-  pub gap_none : k ≡ 0 → at ≤ length d → GapIn rule n d at Pass
+  pub gap_none : k ≡ 0 → at ≤ length d → GapIn rule n d at (Ok tt)
   gap_none z h = gap_right (omega (arith, z, h)) true (subst (λ (i : ℕ). part d at i ≡ blank i) (sym z) refl) refl
 
 -- ---- and the profile count
@@ -118,19 +124,16 @@ module _ (rule : TypeIdRule) (d : List ℕ) {n : ℕ} (k : LengthKnown rule d n)
   known : (length d ≤ 65535) × (8 ≤ length d) × (n ≤ length d - 4)
   known = (k.small, k.room, k.fits)
 
-  pub head_gap : {x : Refusal} {c : Check} → GapIn rule n d (4 + n) c → c ≡ Refuse x → opening rule d ≡ refused x
+  pub head_gap : {x : Refusal} {c : Check} → GapIn rule n d (4 + n) c → c ≡ Err x → (w : Result Opening Refusal) → IsErrAnd w (λ y. y ≡ x) → HeadIn rule d w
   unfolding read_head need checked number run after
-  head_gap {x} g e =
+  head_gap {x} g e w p =
       let q : read_gap rule n d (4 + n) (length d) ≡ refused x = subst (GapIn rule n d (4 + n)) e g in
       let (s, r, f) = known in
-      simp (← k.size, le-ltb, k.allowed, q)
+      refused_as rule d {x = x} (simp (← k.size, le-ltb, k.allowed, q)) w p
 
-  module _ {c : Check} (g : GapIn rule n d (4 + n) c) (pass : c ≡ Pass) where
-    passed : GapIn rule n d (4 + n) Pass
+  module _ {c : Check} (g : GapIn rule n d (4 + n) c) (pass : c ≡ Ok tt) where
+    passed : GapIn rule n d (4 + n) (Ok tt)
     passed = subst (GapIn rule n d (4 + n)) pass g
-
-    pub gap_room : 4 + n + gap_length rule n ≤ length d
-    gap_room = passed.1
 
     pub head_short : {x : Refusal} {g : ℕ} → g ≡ gap_length rule n → x ≡ cut_at place_profile_count (4 + n + g) 4 (length d) → length d < 4 + n + g + 4 → opening rule d ≡ refused x
     unfolding read_head read_count need checked number run after

@@ -8,8 +8,8 @@ use lib.ListN.{length, replicate}
 use Rattle.reference.specs.declared.TypeIdRule.{TypeIdRule}
 use Rattle.reference.specs.declared.AddressWay.{AddressWay}
 use Rattle.octets.specs.Octets.{Octets, splice}
-use Rattle.reference.specs.declared.Answer.{Answer as Told}
-use Rattle.reference.specs.declared.Answer.TheVariants.{Count, Refused}
+use Rattle.reference.specs.Refusals.{Told}
+use Rattle.std.specs.Prelude.{Ok, Err}
 use Rattle.reference.specs.declared.Refusal.{Refusal}
 use Rattle.reference.specs.declared.Tables.{Tables}
 use Rattle.reference.specs.Meaning.{Reference, Room}
@@ -69,20 +69,20 @@ module _ (rule : TypeIdRule) where
   -- ---- what an answer tells of the table
 
   module _ (x : Answer Reference) (t e : List ℕ) (r : Told) (h : ReadInto rule x t e r) where
-    pub into_accepted : (n : ℕ) → r ≡ Count n → (m : Reference) × (x ≡ ok m n) × (e ≡ reference_filed rule t m)
+    pub into_accepted : (n : ℕ) → r ≡ Ok n → (m : Reference) × (x ≡ ok m n) × (e ≡ reference_filed rule t m)
     into_accepted n c = let (m, q) = counts rule x n (sym h.answers ∙ c) in (m, q, h.leaves ∙ ap (λ (y : Answer Reference). table_left rule y t) q)
 
-    pub into_accepts : (m : Reference) (n : ℕ) → x ≡ ok m n → (r ≡ Count n) × (e ≡ reference_filed rule t m)
+    pub into_accepts : (m : Reference) (n : ℕ) → x ≡ ok m n → (r ≡ Ok n) × (e ≡ reference_filed rule t m)
     into_accepts m n q = (h.answers ∙ ap (λ (y : Answer Reference). (answered rule y).answer) q, h.leaves ∙ ap (λ (y : Answer Reference). table_left rule y t) q)
 
-    pub into_refused : (y : Refusal) → r ≡ Refused y → (e ≡ replicate table_size 0) × (tables_from e ≡ no_tables)
+    pub into_refused : (y : Refusal) → r ≡ Err y → (e ≡ replicate table_size 0) × (tables_from e ≡ no_tables)
     into_refused y c =
         let z = h.leaves ∙ ap (λ (v : Answer Reference). table_left rule v t) (refuses rule x y (sym h.answers ∙ c)) in
         (z, ap tables_from z ∙ tables_cleared)
 
     -- accepted with n octets and the used entries u exactly when the reader answers so
     pub into_exactly : Lent t → ((m : Reference) (n : ℕ) → x ≡ ok m n → (WellFormed rule m) × (Room m)) → (n : ℕ) (u : Used)
-        → ((r ≡ Count n) × (used_of (tables_from e) ≡ u)) ↔ ((m : Reference) × (x ≡ ok m n) × (u ≡ tables_of rule m))
+        → ((r ≡ Ok n) × (used_of (tables_from e) ≡ u)) ↔ ((m : Reference) × (x ≡ ok m n) × (u ≡ tables_of rule m))
     into_exactly l good n u = (
       λ c. let (m, q, p) = into_accepted n c.0 in (m, q, sym c.1 ∙ told m q p),
       λ c. let (a, p) = into_accepts c.0 n c.1 in (a, told c.0 c.1 p ∙ sym c.2),
@@ -92,7 +92,7 @@ module _ (rule : TypeIdRule) where
         told m {n} q p = let g = good m n q in ap (λ (y : List ℕ). used_of (tables_from y)) p ∙ lent_shows t l m g.0 g.1
 
   -- what the whole reading accepts, the leading reading accepts with the same answer and table
-  pub whole_into : (s : List ℕ) → Octets s → (t e : List ℕ) (r : Told) (n : ℕ) → r ≡ Count n → ReadInto rule (read_whole rule s) t e r → (ReadInto rule (read_leading rule s) t e r) × (n ≡ length s)
+  pub whole_into : (s : List ℕ) → Octets s → (t e : List ℕ) (r : Told) (n : ℕ) → r ≡ Ok n → ReadInto rule (read_whole rule s) t e r → (ReadInto rule (read_leading rule s) t e r) × (n ≡ length s)
   whole_into s o t e r n c h =
       let (m, q, p) = into_accepted (read_whole rule s) t e r h n c in
       let same : read_whole rule s ≡ read_leading rule s = q ∙ sym (whole_leads rule s o m n q) in
@@ -108,7 +108,7 @@ module _ (rule : TypeIdRule) where
     pub leads : Leads rule s meaning n
     pub same : SameUsed (tables_from e) (tabled (tables_of rule meaning))
     pub shows : ShowsInto rule s meaning t e
-    pub back : (way : AddressWay) (d : List ℕ) → n ≤ length d → (written rule (tables_from e) s d ≡ Count n) × (GivesBack rule way s meaning n d (leaves rule way (tables_from e) s d))
+    pub back : (way : AddressWay) (d : List ℕ) → n ≤ length d → (written rule (tables_from e) s d ≡ Ok n) × (GivesBack rule way s meaning n d (leaves rule way (tables_from e) s d))
 
   taken : (s : List ℕ) → Octets s → (t e : List ℕ) → Lent t → (m : Reference) (n : ℕ) → e ≡ reference_filed rule t m → length s ≤ 65535 → Leads rule s m n → Taken s t e n
   taken s o t e l m n p small h =
@@ -122,11 +122,11 @@ module _ (rule : TypeIdRule) where
         same = subst (λ (y : List ℕ). SameUsed (tables_from y) (tabled (tables_of rule m))) (sym p) same;
         shows = subst (ShowsInto rule s m t) (sym p) (shows_into rule t l m h.formed h.room s n h);
         back = λ way d room.
-            subst (λ (y : List ℕ). (written rule (tables_from y) s d ≡ Count n) × (GivesBack rule way s m n d (leaves rule way (tables_from y) s d))) (sym p)
+            subst (λ (y : List ℕ). (written rule (tables_from y) s d ≡ Ok n) × (GivesBack rule way s m n d (leaves rule way (tables_from y) s d))) (sym p)
             (used_given_back rule way m (tables_from f) same s n h o small d room);
       }
 
-  module _ (s : List ℕ) (o : Octets s) (t e : List ℕ) (lent : Lent t) (r : Told) (n : ℕ) (c : r ≡ Count n) where
+  module _ (s : List ℕ) (o : Octets s) (t e : List ℕ) (lent : Lent t) (r : Told) (n : ℕ) (c : r ≡ Ok n) where
     pub leading_taken : ReadInto rule (read_leading rule s) t e r → Taken s t e n
     leading_taken h =
         let (m, q, p) = into_accepted rule (read_leading rule s) t e r h n c in

@@ -1,5 +1,6 @@
--- A reference is what stands before its profiles, the profiles, and the checks behind them: one law for each case of the code, and what is left once a
--- refused table is cleared. The premises are what the code knows there, so that a proof only names the law. Assumes nothing.
+-- A reference is what stands before its profiles, the profiles, and the checks behind them: one law for each case of the code. The premises are what the
+-- code knows there, so that a proof only names the law. Assumes nothing.
+use Rattle.reading.specs.Into.{ReadInto}
 use Prim.Native.Nat.{ℕ, ◌≤◌}
 use mathlib.Core.Path.{◌≡◌, sym, ap, ◌∙◌, subst}
 use mathlib.Core.Bool.{Bool, true, false}
@@ -9,35 +10,29 @@ use native.Mathlib.Omega.{arith}
 use mir.Syntax.{w8}
 use mir.Val.{Fits}
 use lib.Dec.{ltb, nltb→le, eqb}
-use lib.ListN.{length, get_or, replicate}
+use lib.ListN.{replicate, length, get_or}
 use Rattle.reference.specs.declared.TypeIdRule.{TypeIdRule}
 use Rattle.octets.specs.Octets.{splice}
 use Rattle.reference.specs.declared.Refusal.{Refusal}
-use Rattle.reference.specs.declared.View.{View}
-use Rattle.reference.specs.declared.Check.{Check}
-use Rattle.reference.specs.declared.Check.TheVariants.{Pass, Refuse}
-use Rattle.reference.specs.declared.Answer.{Answer as Told}
-use Rattle.reference.specs.declared.Answer.TheVariants.{Count, Refused}
+use Rattle.reference.specs.Refusals.{Check}
+use Rattle.std.specs.Prelude.{Result, Ok, Err, IsErrAnd}
+use Rattle.reference.specs.Refusals.{Told}
 use Rattle.reference.specs.Meaning.{Profile, Reference, taps_of, names_of, extras_of, sum}
 use Rattle.reference.specs.Steps.{Answer, ok, refused, followed, seen, many}
 use Rattle.reference.specs.Reader.{read_profile}
 use Rattle.reference.specs.Placed.{profiles_at}
 use Rattle.reference.proofs.Laws.{guard_ok, pass_ok, reads_many}
 use Rattle.reference.proofs.Parts.{profile_reads}
-use Rattle.reference.proofs.Steps.{guarded_then, passed_then, seen_ok, seen_no}
+use Rattle.reference.proofs.Steps.{passed_on, guarded_then, passed_then, seen_ok, seen_no}
 use Rattle.reference.proofs.Heads.{profiles_behind, leading_cut, whole_cut}
 use Rattle.table.specs.declared.Counts.{Counts}
-use Rattle.table.specs.Flat.{front_numbers, table_size}
+use Rattle.table.specs.Flat.{table_size, front_numbers}
 use Rattle.table.specs.Filed.{profiles_filed, no_counts, reference_filed}
 use Rattle.read_parts.specs.Told.{Filled}
 use Rattle.read_parts.proofs.Moves.{octets_of_slice}
-use Rattle.reading.specs.declared.HeadRead.{HeadRead}
-use Rattle.reading.specs.declared.HeadRead.TheVariants as Heads
-use Rattle.reading.specs.declared.ProfilesRead.{ProfilesRead}
-use Rattle.reading.specs.declared.ProfilesRead.TheVariants as Ways
+use Rattle.reading.specs.declared.Opening.{Opening}
 use Rattle.reading.specs.Open.{opening, Opens, HeadIn, rooms, ends, passing, read_as}
 use Rattle.reading.specs.Stored.{profiles_told, filled_from, StoresProfiles, open_told, Leaves}
-use Rattle.reading.specs.Into.{ReadInto}
 use Rattle.reading.proofs.Filing.{followed_seen}
 
 -- ---- the checks behind the profiles
@@ -64,13 +59,13 @@ module _ (whole : Bool) (last end p t n e : ℕ) (r : Check) (told : (x : Answer
   ended : (x : Answer (List ℕ)) {k : Check} → r ≡ k → passing k x ≡ ends whole last end p t n e x
   ended x q = ap (λ (k : Check). passing k x) (sym q) ∙ told x
 
-  pub end_fits : r ≡ Pass → (p ≤ 8) × (t ≤ 36) × (n ≤ 32) × (e ≤ 32)
+  pub end_fits : r ≡ Ok tt → (p ≤ 8) × (t ≤ 36) × (n ≤ 32) × (e ≤ 32)
   end_fits q = ends_fit whole last end p t n e (sym (ended (ok [] 0) q))
 
-  pub end_refused : (x : Answer (List ℕ)) {y : Refusal} {left : List ℕ} → r ≡ Refuse y → Leaves (ends whole last end p t n e x) left (Refused y)
-  end_refused x q = record { told = ended x q }
+  pub end_refused : (x : Answer (List ℕ)) {y : Refusal} {left : List ℕ} → r ≡ Err y → (w : Told) → IsErrAnd w (λ z. z ≡ y) → Leaves (ends whole last end p t n e x) left w
+  end_refused x {left = left} q w f = record { told = ap (open_told left) (passed_on w f) ∙ ended x q }
 
-  pub end_passed : (s : List ℕ) {left : List ℕ} → r ≡ Pass → left ≡ s → Leaves (ends whole last end p t n e (ok s last)) left (Count last)
+  pub end_passed : (s : List ℕ) {left : List ℕ} → r ≡ Ok tt → left ≡ s → Leaves (ends whole last end p t n e (ok s last)) left (Ok last)
   end_passed s q f = record { told = ap (λ (y : List ℕ). ok y last) f ∙ ended (ok s last) q }
 
 -- ---- the whole reading
@@ -85,34 +80,34 @@ module _ (rule : TypeIdRule) where
   reading_opened true d = simp (whole_cut rule, passed_then)
   reading_opened false d = leading_cut rule d
 
-  module _ (whole : Bool) (d t : List ℕ) (r : HeadRead) (o : HeadIn rule d r) where
+  module _ (whole : Bool) (d t : List ℕ) (r : Result Opening Refusal) (o : HeadIn rule d r) where
     abbrev Left : List ℕ → Told → Type 0
     Left e v = Leaves (seen (reference_filed rule t) (read_as rule whole d)) e v
 
-    pub no_head : {x : Refusal} {e : List ℕ} → r ≡ Heads.Not x → Left e (Refused x)
-    no_head {x} q = let no : opening rule d ≡ refused x = subst (HeadIn rule d) q o in record { told = rw (reading_opened whole d, no) }
+    pub no_head : {x : Refusal} {e : List ℕ} → r ≡ Err x → (w : Told) → IsErrAnd w (λ y. y ≡ x) → Left e w
+    no_head {x} q w p = let no : opening rule d ≡ refused x = subst (HeadIn rule d) q o in record { told = rw (passed_on w p, reading_opened whole d, no) }
 
-    module _ {v : View} {count next : ℕ} (q : r ≡ Heads.Got v count next) where
-      opens : Opens rule d v count next
+    module _ {h : Opening} (q : r ≡ Ok h) where
+      opens : Opens rule d h.type_id h.count h.next
       opens = subst (HeadIn rule d) q o
 
       pub slice_small : length d ≤ 65535
       slice_small = opens.small
 
-      pub profiles_inside : next ≤ length d
+      pub profiles_inside : h.next ≤ length d
       profiles_inside = opens.inside
 
-      module _ {t' : List ℕ} (w : ProfilesRead) (p : StoresProfiles next t (many count read_profile d next (length d)) t' w) where
-        pub no_profiles_lem : {x : Refusal} {e : List ℕ} → w ≡ Ways.Not x → Left e (Refused x)
-        no_profiles_lem f = record { told = rw (reading_opened whole d, opens.read, seen_no (filled_from next t 0 no_counts) (many count read_profile d next (length d)) (sym p.told ∙ ap (profiles_told t') f)) }
+      module _ {t' : List ℕ} (w : Result (Counts × ℕ) Refusal) (p : StoresProfiles h.next t (many h.count read_profile d h.next (length d)) t' w) where
+        pub no_profiles_lem : {x : Refusal} {e : List ℕ} → w ≡ Err x → (k : Told) → IsErrAnd k (λ y. y ≡ x) → Left e k
+        no_profiles_lem f k g = record { told = rw (passed_on k g, reading_opened whole d, opens.read, seen_no (filled_from h.next t 0 no_counts) (many h.count read_profile d h.next (length d)) (sym p.told ∙ ap (profiles_told t') f)) }
 
-        module _ {u : Counts} {last : ℕ} (f : w ≡ Ways.Got u last) (octs : (k : ℕ) → Fits w8 (get_or d k 0)) where
+        module _ {u : Counts} {last : ℕ} (f : w ≡ Ok (u, last)) (octs : (k : ℕ) → Fits w8 (get_or d k 0)) where
           -- the profiles end inside, are as many as the head says, and are filed
-          read : (l : List Profile) × (many count read_profile d next (length d) ≡ ok l last) × (record { table = t'; counts = u } ≡ filled_from next t 0 no_counts l) × (last ≤ length d) × (length l ≡ count)
+          read : (l : List Profile) × (many h.count read_profile d h.next (length d) ≡ ok l last) × (record { table = t'; counts = u } ≡ filled_from h.next t 0 no_counts l) × (last ≤ length d) × (length l ≡ h.count)
           read =
-              let (l, e, s) = seen_ok (filled_from next t 0 no_counts) _ (sym p.told ∙ ap (profiles_told t') f) in
+              let (l, e, s) = seen_ok (filled_from h.next t 0 no_counts) _ (sym p.told ∙ ap (profiles_told t') f) in
               let (found, good) =
-              (reads_many profile_reads count).sound d next (length d) (record { octs = octets_of_slice d (λ k. (octs k).fits); fits = omega arith; room = omega (arith, profiles_inside) }) l last e in
+              (reads_many profile_reads h.count).sound d h.next (length d) (record { octs = octets_of_slice d (λ k. (octs k).fits); fits = omega arith; room = omega (arith, profiles_inside) }) l last e in
               (l, e, s, found.room, good.1)
 
           pub last_inside : last ≤ length d
@@ -120,7 +115,7 @@ module _ (rule : TypeIdRule) where
 
           -- the front is put over the profiles, if the checks pass
           pub closed : {e : List ℕ} {k : Told}
-              → Leaves (ends whole last (length d) count u.taps u.names u.extras (ok (splice t' 0 (front_numbers v count u.taps u.names u.extras)) last)) e k → Left e k
+              → Leaves (ends whole last (length d) h.count u.taps u.names u.extras (ok (splice t' 0 (front_numbers h.type_id h.count u.taps u.names u.extras)) last)) e k → Left e k
           closed c =
               let (l, profiles, s, _, n) = read in
               let m : Reference = record { type_id = opens.id; profiles = l } in
@@ -140,12 +135,12 @@ module _ (rule : TypeIdRule) where
   -- ---- what is left once a refused table is cleared
 
   module _ (x : Answer Reference) {t e : List ℕ} (r : Told) (h : Leaves (seen (reference_filed rule t) x) e r) where
-    pub read_kept : {n : ℕ} → r ≡ Count n → ReadInto rule x t e (Count n)
+    pub read_kept : {n : ℕ} → r ≡ Ok n → ReadInto rule x t e (Ok n)
     read_kept q =
         let (m, p, f) = seen_ok (reference_filed rule t) x (sym h.told ∙ ap (open_told e) q) in
         record { answers = rw p; leaves = rw p f }
 
-    pub read_cleared : {y : Refusal} {e' : List ℕ} → r ≡ Refused y → e' ≡ replicate table_size 0 → ReadInto rule x t e' (Refused y)
+    pub read_cleared : {y : Refusal} {e' : List ℕ} → r ≡ Err y → e' ≡ replicate table_size 0 → ReadInto rule x t e' (Err y)
     read_cleared q z =
         let p = seen_no (reference_filed rule t) x (sym h.told ∙ ap (open_told e) q) in
         record { answers = rw p; leaves = rw p z }

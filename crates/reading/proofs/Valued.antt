@@ -1,6 +1,7 @@
 -- The reading by value is the reading into a table of zeros. Assumes nothing.
 use Prim.Native.Nat.{ℕ}
 use mathlib.Core.Path.{◌≡◌, refl, ap, ◌∙◌}
+use mathlib.Core.Bool.{Bool, true, false}
 use mathlib.Core.List.{List}
 use mir.Syntax.{w8}
 use mir.Val.{Fits}
@@ -9,7 +10,7 @@ use Rattle.reference.specs.declared.TypeIdRule.{TypeIdRule}
 use Rattle.octets.specs.Octets.{Octets}
 use Rattle.reference.specs.declared.Tables.{Tables}
 use Rattle.reference.specs.declared.Reading.{Reading}
-use Rattle.reference.specs.declared.Answer.{Answer as Told}
+use Rattle.reference.specs.Refusals.{Told}
 use Rattle.reference.specs.Meaning.{Reference, Room}
 use Rattle.reference.specs.Layout.{WellFormed}
 use Rattle.reference.specs.Steps.{Answer, ok, refused}
@@ -19,6 +20,7 @@ use Rattle.table.specs.Flat.{tables_from, table_size}
 use Rattle.read_parts.proofs.Moves.{octets_of_slice}
 use Rattle.table_struct.proofs.Accepted.{tables_read}
 use Rattle.table_struct.proofs.Back.{tables_cleared}
+use Rattle.reading.specs.Open.{read_as}
 use Rattle.reading.specs.Into.{table_left, ReadInto}
 
 module _ (rule : TypeIdRule) where
@@ -43,9 +45,7 @@ module _ (rule : TypeIdRule) where
       let p = q ∙ ap tables_from h.leaves ∙ left_tables x good in
       λ j. record { answer = h.answers j; tables = p j }
 
-  module _ (d : List ℕ) {e : List ℕ} {r : Told} {t : Tables} (octs : (k : ℕ) → Fits w8 (get_or d k 0)) (q : t ≡ tables_from e) where
-    pub leading_valued : ReadInto rule (read_leading rule d) (replicate table_size 0) e r → ◌≡◌ {A = Reading} (record { answer = r; tables = t }) (answered rule (read_leading rule d))
-    leading_valued h = valued (read_leading rule d) (leading_good d (octets_of_slice d (λ k. (octs k).fits))) h q
-
-    pub whole_valued : ReadInto rule (read_whole rule d) (replicate table_size 0) e r → ◌≡◌ {A = Reading} (record { answer = r; tables = t }) (answered rule (read_whole rule d))
-    whole_valued h = valued (read_whole rule d) (whole_good d (octets_of_slice d (λ k. (octs k).fits))) h q
+  pub read_valued : (whole : Bool) (d : List ℕ) {e : List ℕ} {r : Told} {t : Tables} → ((k : ℕ) → Fits w8 (get_or d k 0)) → t ≡ tables_from e
+      → ReadInto rule (read_as rule whole d) (replicate table_size 0) e r → ◌≡◌ {A = Reading} (record { answer = r; tables = t }) (answered rule (read_as rule whole d))
+  read_valued true d octs q h = valued (read_whole rule d) (whole_good d (octets_of_slice d (λ k. (octs k).fits))) h q
+  read_valued false d octs q h = valued (read_leading rule d) (leading_good d (octets_of_slice d (λ k. (octs k).fits))) h q

@@ -2,7 +2,7 @@
 -- the entries it fills; a refused one leaves zeros. Assumes nothing.
 use Rattle.std.specs.Prelude.{ℕ, ◌≡◌, List, replicate}
 use Rattle.reference.specs.declared.TypeIdRule.{TypeIdRule}
-use Rattle.reference.specs.declared.Answer.{Answer as Told}
+use Rattle.reference.specs.Refusals.{Told}
 use Rattle.reference.specs.Meaning.{Reference}
 use Rattle.reference.specs.Steps.{Answer, ok, refused}
 use Rattle.reference.specs.Reader.{answered}

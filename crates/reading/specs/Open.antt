@@ -1,11 +1,11 @@
 -- What the code of a reading tells, in the definition's words: a profile's header; what stands before the profiles, its type id's length and gap first;
 -- what is checked behind them.
 -- Assumes nothing.
-use Rattle.std.specs.Prelude.{ℕ, ◌+◌, ◌-◌, ◌≤◌, ◌≡◌, Bool, true, false, List, eqb, length}
+use Rattle.std.specs.Prelude.{ℕ, ◌+◌, ◌-◌, ◌≤◌, ◌≡◌, Bool, true, false, List, eqb, length, Result, Ok, Err}
 use Rattle.reference.specs.declared.TypeIdRule.{TypeIdRule}
 use Rattle.reference.specs.declared.View.{View}
-use Rattle.reference.specs.declared.Check.{Check}
-use Rattle.reference.specs.declared.Check.TheVariants.{Pass, Refuse}
+use Rattle.reference.specs.declared.Refusal.{Refusal}
+use Rattle.reference.specs.Refusals.{Told, Check}
 use Rattle.reference.specs.Meaning.{Reference}
 use Rattle.octets.specs.Octets.{be, part}
 use Rattle.reference.specs.Layout.{allowed, gap_length, gap}
@@ -15,17 +15,12 @@ use Rattle.reference.specs.Steps.{Answer, ok, refused, pick}
 use Rattle.reference.specs.Reader.{small, limit, read_gap, read_leading, read_whole}
 use Rattle.reference.specs.Heads.{Header, Head, read_head}
 use Rattle.reference.specs.Placed.{view}
-use Rattle.reading.specs.declared.HeaderRead.{HeaderRead}
-use Rattle.reading.specs.declared.HeaderRead.TheVariants as Headers
-use Rattle.reading.specs.declared.LengthRead.{LengthRead}
-use Rattle.reading.specs.declared.LengthRead.TheVariants as Lengths
-use Rattle.reading.specs.declared.HeadRead.{HeadRead}
-use Rattle.reading.specs.declared.HeadRead.TheVariants as Heads
+use Rattle.reading.specs.declared.Opening.{Opening}
 
 -- the header of a profile, which stands at pos
-abbrev pub header_told : ℕ → HeaderRead → Answer Header
-header_told pos (Headers.Got tag len) = ok (record { tag = tag; size = len }) (pos + 8)
-header_told pos (Headers.Not x) = refused x
+abbrev pub header_told : ℕ → Result (ℕ × ℕ) Refusal → Answer Header
+header_told pos (Ok h) = ok (record { tag = h.0; size = h.1 }) (pos + 8)
+header_told pos (Err x) = refused x
 
 -- ---- what stands before the profiles: the type id, and how many profiles follow; 6 comes first
 
@@ -40,14 +35,14 @@ pub record LengthKnown (rule : TypeIdRule) (d : List ℕ) (n : ℕ) : Type 0 whe
   pub allowed : allowed rule n ≡ true
   pub fits : n ≤ length d - 4
 
-abbrev pub LengthIn : TypeIdRule → List ℕ → LengthRead → Type 0
-LengthIn rule d (Lengths.Got n) = LengthKnown rule d n
-LengthIn rule d (Lengths.Not x) = opening rule d ≡ refused x
+abbrev pub LengthIn : TypeIdRule → List ℕ → Told → Type 0
+LengthIn rule d (Ok n) = LengthKnown rule d n
+LengthIn rule d (Err x) = opening rule d ≡ refused x
 
 -- the gap at offset at, behind a type id of n octets
 abbrev pub GapIn : TypeIdRule → ℕ → List ℕ → ℕ → Check → Type 0
-GapIn rule n d at Pass = (read_gap rule n d at (length d) ≡ ok (be (gap rule n)) (at + gap_length rule n)) × (at + gap_length rule n ≤ length d)
-GapIn rule n d at (Refuse x) = read_gap rule n d at (length d) ≡ refused x
+GapIn rule n d at (Ok _) = (read_gap rule n d at (length d) ≡ ok (be (gap rule n)) (at + gap_length rule n)) × (at + gap_length rule n ≤ length d)
+GapIn rule n d at (Err x) = read_gap rule n d at (length d) ≡ refused x
 
 -- it was read from d under the rule: v shows the type id, and the profiles stand behind it and its gap, inside d
 pub record Opens (rule : TypeIdRule) (d : List ℕ) (v : View) (count next : ℕ) : Type 0 where
@@ -58,9 +53,9 @@ pub record Opens (rule : TypeIdRule) (d : List ℕ) (v : View) (count next : ℕ
   pub shown : v ≡ view 4 id
   pub behind : next ≡ 4 + length id + gap_length rule (length id) + 4
 
-abbrev pub HeadIn : TypeIdRule → List ℕ → HeadRead → Type 0
-HeadIn rule d (Heads.Got v count next) = Opens rule d v count next
-HeadIn rule d (Heads.Not x) = opening rule d ≡ refused x
+abbrev pub HeadIn : TypeIdRule → List ℕ → Result Opening Refusal → Type 0
+HeadIn rule d (Ok o) = Opens rule d o.type_id o.count o.next
+HeadIn rule d (Err x) = opening rule d ≡ refused x
 
 -- ---- what is checked behind the profiles, before an answer: leftover octets, if the whole slice is read, and then 7 for the first table that is too
 -- small
@@ -74,8 +69,8 @@ ends false next end profiles taps names extras x = rooms profiles taps names ext
 
 -- a check that passes hands the answer on
 abbrev pub passing : Check → {A : Type 0} → Answer A → Answer A
-passing Pass x = x
-passing (Refuse y) x = refused y
+passing (Ok _) x = x
+passing (Err y) x = refused y
 
 -- ---- the two readings in one
 

@@ -1,7 +1,7 @@
 -- What the readings into a lent table that name no rule answer and leave: rule 1. Assumes nothing.
 use Rattle.std.specs.Prelude.{ℕ, List}
 use Rattle.reference.specs.declared.TypeIdRule.TheVariants.{Multiple}
-use Rattle.reference.specs.declared.Answer.{Answer as Told}
+use Rattle.reference.specs.Refusals.{Told}
 use Rattle.reference.specs.Meaning.{Reference}
 use Rattle.reference.specs.Steps.{Answer}
 use Rattle.reading.specs.Into as Into

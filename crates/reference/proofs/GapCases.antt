@@ -11,9 +11,8 @@ use Rattle.reference.specs.declared.AddressWay.TheVariants.{Constants}
 use Rattle.reference.specs.declared.View.{View}
 use Rattle.reference.specs.declared.TaggedProfile.TheVariants as Sort
 use Rattle.reference.specs.declared.Tables.{Tables}
-use Rattle.reference.specs.declared.Check.{Check}
-use Rattle.reference.specs.declared.Check.TheVariants.{Pass, Refuse}
-use Rattle.reference.specs.declared.Answer.TheVariants.{Count}
+use Rattle.reference.specs.Refusals.{Check}
+use Rattle.std.specs.Prelude.{Ok, Err}
 use Rattle.reference.specs.Layout.{layout_profile, data_of, tag_of, layout_of}
 use Rattle.reference.specs.Refusals.{refusal}
 use Rattle.reference.specs.Tabled.{filled, tabled}
@@ -117,7 +116,7 @@ sample = typed 5 (0xFF ∷ 0xFF ∷ 0xFF ∷ []) ++ four 1 ++ four 7 ++ four 1 +
 abbrev seen : Tables
 seen = tabled (record { type_id = v 4 5; profiles = record { body = Sort.Opaque 7 (v 24 1) } ∷ []; taps = []; names = []; extras = [] })
 
-pub sample_seen : answered Gap (read_leading Gap sample) ≡ record { answer = Count 25; tables = seen }
+pub sample_seen : answered Gap (read_leading Gap sample) ≡ record { answer = Ok 25; tables = seen }
 unfolding filled be done need number checked run rest choose ending within fits apart many after read_count read_body read_profile read_gap read_reference read_leading layout_profile octets data_of
 sample_seen = refl
 
@@ -134,20 +133,20 @@ tables n = tabled (record { type_id = v 0 n; profiles = []; taps = []; names = [
 abbrev pub writings : List ((TypeIdRule × ℕ × ℕ) × (Check × Check))
 writings =
     -- lengths with and without the gap; 4 with place 33 under rule 1 only, and 5 before it
-    ((Gap, 5, 16), (Pass, Pass))
-    ∷ ((Gap, 5, 15), (Pass, Refuse (refusal 5 0 16 15)))
-    ∷ ((Gap, 1, 12), (Pass, Pass))
-    ∷ ((Gap, 1, 11), (Pass, Refuse (refusal 5 0 12 11)))
-    ∷ ((Gap, 4, 12), (Pass, Pass))
-    ∷ ((Gap, 4, 11), (Pass, Refuse (refusal 5 0 12 11)))
-    ∷ ((Multiple, 4, 12), (Pass, Pass))
-    ∷ ((Multiple, 5, 13), (Pass, Refuse (refusal 4 33 0 0)))
-    ∷ ((Multiple, 5, 12), (Pass, Refuse (refusal 5 0 13 12)))
+    ((Gap, 5, 16), ((Ok tt), (Ok tt)))
+    ∷ ((Gap, 5, 15), ((Ok tt), Err (refusal 5 0 16 15)))
+    ∷ ((Gap, 1, 12), ((Ok tt), (Ok tt)))
+    ∷ ((Gap, 1, 11), ((Ok tt), Err (refusal 5 0 12 11)))
+    ∷ ((Gap, 4, 12), ((Ok tt), (Ok tt)))
+    ∷ ((Gap, 4, 11), ((Ok tt), Err (refusal 5 0 12 11)))
+    ∷ ((Multiple, 4, 12), ((Ok tt), (Ok tt)))
+    ∷ ((Multiple, 5, 13), ((Ok tt), Err (refusal 4 33 0 0)))
+    ∷ ((Multiple, 5, 12), ((Ok tt), Err (refusal 5 0 13 12)))
     -- 65,525 octets of type id: without its gap of 3 the image would fit
-    ∷ ((Gap, 65525, 70000), (Refuse (refusal 10 0 65536 65535), Refuse (refusal 10 0 65536 65535)))
-    ∷ ((Multiple, 65525, 70000), (Pass, Refuse (refusal 4 33 0 0)))
-    ∷ ((Gap, 65524, 70000), (Pass, Pass))
-    ∷ ((Gap, 65523, 70000), (Pass, Pass))
+    ∷ ((Gap, 65525, 70000), (Err (refusal 10 0 65536 65535), Err (refusal 10 0 65536 65535)))
+    ∷ ((Multiple, 65525, 70000), ((Ok tt), Err (refusal 4 33 0 0)))
+    ∷ ((Gap, 65524, 70000), ((Ok tt), (Ok tt)))
+    ∷ ((Gap, 65523, 70000), ((Ok tt), (Ok tt)))
     ∷ []
 
 pub writings_checked : map (λ q. (measure_check q.0.0 (tables q.0.1) q.0.1, write_check q.0.0 (tables q.0.1) q.0.1 q.0.2)) writings ≡ map (λ q. q.1) writings
@@ -155,6 +154,6 @@ unfolding filled test both each counts_check views_check size_of measure_check w
 writings_checked = refl
 
 -- the lengths that measuring tells over a source of five octets
-pub measured_lengths : map (λ (n : ℕ). measured Gap (tables n) letters) (0 ∷ 1 ∷ 2 ∷ 3 ∷ 4 ∷ 5 ∷ []) ≡ Count 8 ∷ Count 12 ∷ Count 12 ∷ Count 12 ∷ Count 12 ∷ Count 16 ∷ []
+pub measured_lengths : map (λ (n : ℕ). measured Gap (tables n) letters) (0 ∷ 1 ∷ 2 ∷ 3 ∷ 4 ∷ 5 ∷ []) ≡ Ok 8 ∷ Ok 12 ∷ Ok 12 ∷ Ok 12 ∷ Ok 12 ∷ Ok 16 ∷ []
 unfolding filled test both each counts_check views_check size_of measure_check measured
 measured_lengths = refl

@@ -8,9 +8,8 @@ use Rattle.octets.specs.Octets.{Octets, part, be, octets, joined, splice}
 use Rattle.reference.specs.declared.AddressWay.{AddressWay}
 use Rattle.reference.specs.declared.TypeIdRule.TheVariants.{Multiple, Gap}
 use Rattle.reference.specs.declared.Tables.{Tables}
-use Rattle.reference.specs.declared.Check.{Check}
-use Rattle.reference.specs.declared.Check.TheVariants.{Pass, Refuse}
-use Rattle.reference.specs.declared.Answer.TheVariants.{Count}
+use Rattle.reference.specs.Refusals.{Check}
+use Rattle.std.specs.Prelude.{Ok, Err}
 use Rattle.reference.specs.Meaning.{Reference, sum}
 use Rattle.reference.specs.Layout.{allowed, layout_of, layout_profile}
 use Rattle.reference.specs.Steps.{Answer, ok, refused, pick, followed, need, number, run, ending, many, after, done, checked}
@@ -74,7 +73,7 @@ tables_same m h =
     (no_gap Gap (length m.type_id) h)
 
 answered_same : (a : Answer Reference) → ((m : Reference) (n : ℕ) → a ≡ ok m n → length m.type_id % 4 ≡ 0) → answered Gap a ≡ answered Multiple a
-answered_same (ok m n) h = ap (λ (u : Used). record { answer = Count n; tables = tabled u }) (tables_same m (h m n refl))
+answered_same (ok m n) h = ap (λ (u : Used). record { answer = Ok n; tables = tabled u }) (tables_same m (h m n refl))
 answered_same (refused x) h = refl
 
 -- what rule 1 accepts has such a type id
@@ -118,10 +117,10 @@ layout_same m h =
 
 left_same : (way : AddressWay) (t : Tables) (s d : List ℕ) → t.type_id.len % 4 ≡ 0 → (c : Check) → write_check Multiple t (length s) (length d) ≡ c → left c d (image_of Gap way s t) ≡ left c d (image_of Multiple way s t)
 unfolding image_of views_check
-left_same way t s d h Pass e =
+left_same way t s d h (Ok _) e =
     let p = passing Multiple t (length s) (length d) e in
     ap (splice d 0) (layout_same (contents way s (used_of t)) (ap (λ (k : ℕ). k % 4) (length_shown s 0 t.type_id (passes _ _ p.views).0) ∙ h))
-left_same way t s d h (Refuse r) e = refl
+left_same way t s d h (Err r) e = refl
 
 written_alike : (way : AddressWay) (t : Tables) (s d : List ℕ) → t.type_id.len % 4 ≡ 0 → WrittenAlike way t s d
 unfolding measured written leaves

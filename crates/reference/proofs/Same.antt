@@ -9,7 +9,7 @@ use lib.Seq.{take_all}
 use Rattle.octets.specs.Octets.{Octets}
 use Rattle.reference.specs.declared.TypeIdRule.{TypeIdRule}
 use Rattle.reference.specs.declared.AddressWay.{AddressWay}
-use Rattle.reference.specs.declared.Answer.TheVariants.{Count}
+use Rattle.std.specs.Prelude.{Ok}
 use Rattle.reference.specs.declared.Tables.{Tables}
 use Rattle.reference.specs.Meaning.{Reference}
 use Rattle.reference.specs.Layout.{layout_of, Leads}
@@ -94,7 +94,7 @@ module _ (rule : TypeIdRule) (way : AddressWay) (m : Reference) (t : Tables) (h 
         ap (canon way) (sym e) ∙ contents_canon way d (tables_of rule m) ∙ e
 
     module _ (o : Octets d) (small : length d ≤ 65535) (out : List ℕ) (room : n ≤ length out) where
-      pub used_given_back : (written rule t d out ≡ Count n) × (GivesBack rule way d m n out (leaves rule way t d out))
+      pub used_given_back : (written rule t d out ≡ Ok n) × (GivesBack rule way d m n out (leaves rule way t d out))
       used_given_back =
           let w = only_used_matter rule way t (tabled (tables_of rule m)) h d out in
           let (a, g) = part_given_back rule way d o m n (accepted rule d o small m n l) out room in

@@ -9,7 +9,7 @@ use Rattle.reference.specs.declared.AddressWay.TheVariants.{Constants}
 use Rattle.reference.specs.declared.View.{View}
 use Rattle.reference.specs.declared.TaggedProfile.TheVariants as Sort
 use Rattle.reference.specs.declared.Tables.{Tables}
-use Rattle.reference.specs.declared.Answer.TheVariants.{Count}
+use Rattle.std.specs.Prelude.{Ok}
 use Rattle.octets.specs.Octets.{be, octets, splice}
 use Rattle.reference.specs.Layout.{layout_tap, layout_location, layout_binder, layout_extra, layout_biop, layout_address, layout_service, layout_lite, tag_of, data_of, layout_profile, layout_of, layout_named}
 use Rattle.reference.specs.Steps.{done, need, number, checked, run, rest, choose, ending, within, fits, apart, many, after}
@@ -49,7 +49,7 @@ seen =
       extras = record { tag = 0x21222324; «data» = v 59 1 } ∷ record { tag = 0x41424344; «data» = v 126 2 } ∷ [];
     })
 
-pub sample_seen : answered Multiple (read_leading Multiple sample) ≡ record { answer = Count 137; tables = seen }
+pub sample_seen : answered Multiple (read_leading Multiple sample) ≡ record { answer = Ok 137; tables = seen }
 unfolding filled be done need number checked run rest choose ending within fits apart many after read_count read_run read_named component read_fixed read_extra read_tap read_location read_object_location read_binder read_biop read_address read_name read_context read_service read_lite read_body read_profile read_gap read_reference read_leading layout_profile layout_location octets data_of layout_binder layout_biop layout_tap layout_extra layout_named layout_lite layout_service layout_address
 sample_seen = refl
 

@@ -6,11 +6,17 @@ use mathlib.Core.List.{List}
 use mathlib.Core.Logic.{◌≢◌}
 use native.Mathlib.Omega.{arith}
 use lib.Dec.{T, ltb, lt→ltb, not_T, eqb, eqb→eq, eqb_refl}
+use Rattle.std.specs.Prelude.{Result, Ok, Err, IsErrAnd}
 use Rattle.octets.specs.Octets.{part}
 use Rattle.reference.specs.declared.Refusal.{Refusal}
 use Rattle.reference.specs.Steps.{Answer, ok, refused, Reader, pick, followed, seen, done, need, run, ending, within, fits, after}
 use Rattle.reference.specs.Refusals.{cut_at, left_at, long_at}
 use Rattle.reference.proofs.Laws.{guard_pass, pass_pass, not_ltb}
+
+-- what `?` hands on is the refusal as it was
+pub passed_on : {B : Type 0} (w : Result B Refusal) {x : Refusal} → IsErrAnd w (λ y. y ≡ x) → w ≡ Err x
+passed_on (Ok b) h = absurd h
+passed_on (Err y) h = ap Err h
 
 module _ {A : Type 0} (d : List ℕ) (pos end : ℕ) where
   pub need_cut : (k place : ℕ) (r : Reader A) → end < pos + k → need k place r d pos end ≡ refused (cut_at place pos k end)

@@ -1,6 +1,6 @@
 -- The statements of the promises: what holds of an accepted reading's tables, of writing them back, of reading what was written, of measuring
 -- against writing (document 01, "Tables" and the three demands). The theorems stand in proofs/. Assumes nothing.
-use Rattle.std.specs.Prelude.{ℕ, ◌-◌, ◌%◌, ◌<◌, ◌≤◌, ◌≡◌, List, [], ◌∷◌, length, take, drop, get_or, replicate}
+use Rattle.std.specs.Prelude.{ℕ, ◌-◌, ◌%◌, ◌<◌, ◌≤◌, ◌≡◌, List, [], ◌∷◌, length, take, drop, get_or, replicate, Ok, Err}
 use Rattle.octets.specs.Octets.{Each, Octets, part, be}
 use Rattle.reference.specs.declared.TypeIdRule.{TypeIdRule}
 use Rattle.reference.specs.declared.TypeIdRule.TheVariants.{Multiple, Gap}
@@ -8,8 +8,7 @@ use Rattle.reference.specs.declared.AddressWay.{AddressWay}
 use Rattle.reference.specs.declared.Refusal.{Refusal}
 use Rattle.reference.specs.declared.Tables.{Tables}
 use Rattle.reference.specs.declared.Reading.{Reading}
-use Rattle.reference.specs.declared.Answer.{Answer as Told}
-use Rattle.reference.specs.declared.Answer.TheVariants.{Count, Refused}
+use Rattle.reference.specs.Refusals.{Told}
 use Rattle.reference.specs.Meaning.{Reference}
 use Rattle.reference.specs.Reader.{read_leading, read_whole, answered}
 use Rattle.reference.specs.Used.{taps_in, names_in, extras_in}
@@ -23,7 +22,7 @@ use Rattle.reference.specs.Writer.{counted, image_of, measured, written, leaves}
 
 -- the reading that accepts n octets with the tables t
 abbrev pub taking : ℕ → Tables → Reading
-taking n t = record { answer = Count n; tables = t }
+taking n t = record { answer = Ok n; tables = t }
 
 -- Each used count is the number of used entries, and the sum of the profiles' counts.
 pub record Agrees (t : Tables) : Type 0 where
@@ -51,7 +50,7 @@ pub record ShowsFields (rule : TypeIdRule) (d : List ℕ) (m : Reference) (t : T
 -- What a reading of a piece that is cut short answers (document 02, No. 13): it is refused, and only with 1 or 2.
 pub record CutShort (r : Told) : Type 0 where
   pub refusal : Refusal
-  pub refused : r ≡ Refused refusal
+  pub refused : r ≡ Err refusal
   pub number : Among refusal.number (1 ∷ 2 ∷ [])
 
 -- Writing the tables of an accepted reading of d that says m, over d itself, into an output that held out and has room, left e: at every index before the
@@ -66,7 +65,7 @@ pub record GivesBack (rule : TypeIdRule) (way : AddressWay) (d : List ℕ) (m : 
 
 -- Reading x answers n, and its tables say over x what t says over s: as document 01 lists contents, and profile by profile.
 pub record ReadsBack (way : AddressWay) (t : Tables) (s : List ℕ) (n : ℕ) (x : List ℕ) (r : Reading) : Type 0 where
-  pub answers : r.answer ≡ Count n
+  pub answers : r.answer ≡ Ok n
   pub says : said x r.tables ≡ said s t
   pub means : contents way x (used_of r.tables) ≡ contents way s (used_of t)
 
@@ -80,10 +79,10 @@ pub record PutInFront (image d : List ℕ) (n : ℕ) (e : List ℕ) : Type 0 whe
 
 -- Measuring answers q, and writing r: one length, that of the image l; and refusals with one of these numbers alike.
 pub record LengthIsWritten (numbers l : List ℕ) (q r : Told) : Type 0 where
-  pub image : (n : ℕ) → q ≡ Count n → (length l ≡ n) × (n ≤ 65535)
-  pub length : (n : ℕ) → r ≡ Count n → q ≡ Count n
-  pub refused : (x : Refusal) → q ≡ Refused x → (r ≡ Refused x) × (Among x.number numbers)
-  pub early : (x : Refusal) → r ≡ Refused x → Among x.number numbers → q ≡ Refused x
+  pub image : (n : ℕ) → q ≡ Ok n → (length l ≡ n) × (n ≤ 65535)
+  pub length : (n : ℕ) → r ≡ Ok n → q ≡ Ok n
+  pub refused : (x : Refusal) → q ≡ Err x → (r ≡ Err x) × (Among x.number numbers)
+  pub early : (x : Refusal) → r ≡ Err x → Among x.number numbers → q ≡ Err x
 
 -- Two tables have the same used counts and the same used entries.
 pub record SameUsed (t t' : Tables) : Type 0 where

@@ -2,10 +2,9 @@
 -- steps and nested as 01 nests the parts, with the Rust's checks in their order. The rule for type ids (document 02, No. 11) enters in `read_reference`
 -- alone. 6 comes first; in the whole-slice reading leftover octets come last; then 7. Inside profile data the first two figures count from the start of
 -- that data; the third, the offset in the caller's slice, is made by the steps, and no reader names it. Assumes nothing.
-use Rattle.std.specs.Prelude.{ℕ, ◌+◌, ◌-◌, List, ltb, leb, eqb, length}
+use Rattle.std.specs.Prelude.{ℕ, ◌+◌, ◌-◌, List, ltb, leb, eqb, length, Ok, Err}
 use Rattle.octets.specs.Octets.{be}
 use Rattle.reference.specs.declared.TypeIdRule.{TypeIdRule}
-use Rattle.reference.specs.declared.Answer.TheVariants.{Count, Refused}
 use Rattle.reference.specs.declared.Reading.{Reading}
 use Rattle.reference.specs.Meaning.{Tap, Location, Extra, Biop, Address, Name, Service, Lite, Profile, biop, lite, opaque, Reference, taps_of, names_of, extras_of, sum}
 use Rattle.reference.specs.Layout.{allowed, gap_length, gap, tag_biop, tag_lite, tag_location, tag_binder, tag_service}
@@ -172,5 +171,5 @@ read_whole rule d = sized d (ending place_reference_leftover (read_reference rul
 -- ---- what a reading answers: its tables, or the empty ones
 
 abbrev pub answered : TypeIdRule → Answer Reference → Reading
-answered rule (ok m n) = record { answer = Count n; tables = tabled (tables_of rule m) }
-answered rule (refused x) = record { answer = Refused x; tables = no_tables }
+answered rule (ok m n) = record { answer = Ok n; tables = tabled (tables_of rule m) }
+answered rule (refused x) = record { answer = Err x; tables = no_tables }

@@ -1,5 +1,5 @@
 -- The steps that readers are put together from: what each answers of a list d, from pos on, before end. Assumes nothing.
-use Rattle.std.specs.Prelude.{ℕ, zero, suc, ◌+◌, ◌-◌, Bool, true, false, List, [], ◌∷◌, ltb, eqb}
+use Rattle.std.specs.Prelude.{ℕ, zero, suc, ◌+◌, ◌-◌, Bool, true, false, List, [], ◌∷◌, ltb, eqb, Result, Ok, Err}
 use Rattle.octets.specs.Octets.{part, be}
 use Rattle.reference.specs.declared.Refusal.{Refusal}
 use Rattle.reference.specs.Refusals.{cut_at, left_at, long_at, wrong_at, shifted}
@@ -8,6 +8,11 @@ use Rattle.reference.specs.Refusals.{cut_at, left_at, long_at, wrong_at, shifted
 pub data Answer (A : Type 0) : Type 0 where
   ok : A → ℕ → Answer A
   refused : Refusal → Answer A
+
+-- the code's answer in these words: what was read and where it ends, or the refusal
+abbrev pub answer_of : {A : Type 0} → Result (A × ℕ) Refusal → Answer A
+answer_of (Ok p) = ok p.0 p.1
+answer_of (Err x) = refused x
 
 -- of d, from pos, before end
 abbrev pub Reader : Type 0 → Type 0

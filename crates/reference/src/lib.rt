@@ -9,26 +9,26 @@ ghost use Rattle.reference.specs.Tabled.{no_tables};
 
 // Which type ids a reference may have (document 02, No. 11). Rule 1: of a length that is a multiple of 4. Rule 2: of any length, with a gap of octets FF
 // behind it up to the next multiple of 4.
-#[derive(Clone, Copy)]
+#[derive(Clone, Copy, Debug, PartialEq, Eq)]
 pub enum TypeIdRule {
     Multiple,
     Gap,
 }
 
 // How an address is written: with the constants of its kind.
-#[derive(Clone, Copy)]
+#[derive(Clone, Copy, Debug, PartialEq, Eq)]
 pub enum AddressWay {
     Constants,
 }
 
 // A run of octets in the caller's slice.
-#[derive(Clone, Copy)]
+#[derive(Clone, Copy, Debug, PartialEq, Eq)]
 pub struct View {
     pub at: u32,
     pub len: u32,
 }
 
-#[derive(Clone, Copy)]
+#[derive(Clone, Copy, Debug, PartialEq, Eq)]
 pub struct Tap {
     pub id: u16,
     pub use_: u16,
@@ -36,19 +36,19 @@ pub struct Tap {
     pub selector: View,
 }
 
-#[derive(Clone, Copy)]
+#[derive(Clone, Copy, Debug, PartialEq, Eq)]
 pub struct NameComponent {
     pub id: View,
     pub kind: View,
 }
 
-#[derive(Clone, Copy)]
+#[derive(Clone, Copy, Debug, PartialEq, Eq)]
 pub struct LiteComponent {
     pub tag: u32,
     pub data: View,
 }
 
-#[derive(Clone, Copy)]
+#[derive(Clone, Copy, Debug, PartialEq, Eq)]
 pub struct ObjectLocation {
     pub carousel: u32,
     pub module: u16,
@@ -58,7 +58,7 @@ pub struct ObjectLocation {
 }
 
 // What varies in an address of twenty octets; the constants belong to the kind itself.
-#[derive(Clone, Copy)]
+#[derive(Clone, Copy, Debug, PartialEq, Eq)]
 pub struct NsapAddress {
     pub carousel: u32,
     pub specifier0: u8,
@@ -83,7 +83,7 @@ impl NsapAddress {
 }
 
 // A profile's taps, names and extras are the next so many of the tables. Opaque comes first: an unused entry is an opaque one.
-#[derive(Clone, Copy)]
+#[derive(Clone, Copy, Debug, PartialEq, Eq)]
 pub enum TaggedProfile {
     Opaque {
         tag: u32,
@@ -102,12 +102,12 @@ pub enum TaggedProfile {
     },
 }
 
-#[derive(Clone, Copy)]
+#[derive(Clone, Copy, Debug, PartialEq, Eq)]
 pub struct Profile {
     pub body: TaggedProfile,
 }
 
-#[derive(Clone, Copy)]
+#[derive(Clone, Copy, Debug, PartialEq, Eq)]
 pub struct Tables {
     pub type_id: View,
     pub profiles_used: u32,
@@ -121,8 +121,8 @@ pub struct Tables {
 }
 
 // Why something is refused: document 01's number, place and two figures, and the offset in the caller's slice where a reading broke
-// (0 for 6, 7 and in writing).
-#[derive(Clone, Copy)]
+// (0 for 6, 7 and in writing). Number and place are no enums: theorems speak of them as numbers (`CutShort`, `Points`), and C hands them out.
+#[derive(Clone, Copy, Debug, PartialEq, Eq)]
 pub struct Refusal {
     pub number: u8,
     pub place: u8,
@@ -132,27 +132,19 @@ pub struct Refusal {
 }
 
 // Octets consumed or written, or the refusal.
-#[derive(Clone, Copy)]
-pub enum Answer {
-    Count(usize),
-    Refused(Refusal),
-}
+pub type Answer = Result<usize, Refusal>;
 
-#[derive(Clone, Copy)]
+#[derive(Clone, Copy, Debug, PartialEq, Eq)]
 pub struct Reading {
     pub answer: Answer,
     pub tables: Tables,
 }
 
 // What a check finds.
-#[derive(Clone, Copy)]
-pub enum Check {
-    Pass,
-    Refuse(Refusal),
-}
+pub type Check = Result<(), Refusal>;
 
 // The kind of an object; an unknown one with its four octets as a number.
-#[derive(Clone, Copy)]
+#[derive(Clone, Copy, Debug, PartialEq, Eq)]
 pub enum ObjectKind {
     Directory,
     File,
@@ -163,18 +155,10 @@ pub enum ObjectKind {
 }
 
 // A tap's transaction id and timeout, which it has together or not at all.
-#[derive(Clone, Copy)]
-pub enum TapNumbers {
-    Both { transaction: u32, timeout: u32 },
-    Neither,
-}
-
-// The index of the first BIOP profile.
-#[derive(Clone, Copy)]
-pub enum FirstBiop {
-    At(usize),
-    Nothing,
-    Refused(Refusal),
+#[derive(Clone, Copy, Debug, PartialEq, Eq)]
+pub struct TapNumbers {
+    pub transaction: u32,
+    pub timeout: u32,
 }
 
 pub const PROFILES: usize = 8;
@@ -377,11 +361,8 @@ pub fn shift(base: usize, why: Refusal) -> Refusal
     ensures { result ≡ shifted base why }
 {
     Refusal {
-        number: why.number,
-        place: why.place,
-        first: why.first,
-        second: why.second,
         offset: base + why.offset,
+        ..why
     }
 }
 

@@ -12,8 +12,8 @@ use Rattle.octets.specs.Octets.{part, be, splice}
 use Rattle.octets.proofs.Part.{length_part}
 use Rattle.reference.specs.declared.TypeIdRule.TheVariants.{Multiple}
 use Rattle.reference.specs.declared.Refusal.{Refusal}
-use Rattle.reference.specs.declared.Answer.{Answer as Told}
-use Rattle.reference.specs.declared.Answer.TheVariants.{Count, Refused}
+use Rattle.reference.specs.Refusals.{Told}
+use Rattle.std.specs.Prelude.{Ok, Err}
 use Rattle.reference.specs.Meaning.{Reference, taps_of, names_of, extras_of, sum}
 use Rattle.reference.specs.Steps.{Answer, ok, need, checked, number, run, after, done, many, ending}
 use Rattle.reference.specs.Places.{place_profile_count, place_reference_leftover}
@@ -67,14 +67,14 @@ type_id_stands d {m} {n} e =
 
 -- a whole reading into a lent table t, which left e: what its row says
 module _ (s : List ℕ) {t e : List ℕ} {r : Told} (h : ReadInto Multiple (read_whole Multiple s) t e r) where
-  pub row_refused : {y : Refusal} → r ≡ Refused y → (asked : Bool) (start : ℕ) → refused_text asked start y ≡ answer_text asked start (read_whole Multiple s)
+  pub row_refused : {y : Refusal} → r ≡ Err y → (asked : Bool) (start : ℕ) → refused_text asked start y ≡ answer_text asked start (read_whole Multiple s)
   unfolding answer_text
   row_refused {y} q asked start = let x = refuses Multiple (read_whole Multiple s) y (sym h.answers ∙ q) in rw x refl
 
-  pub offset_inside : {y : Refusal} → r ≡ Refused y → y.offset ≤ length s
+  pub offset_inside : {y : Refusal} → r ≡ Err y → y.offset ≤ length s
   offset_inside {y} q = (whole_points Multiple s y (refuses Multiple (read_whole Multiple s) y (sym h.answers ∙ q))).inside
 
-  module _ {k : ℕ} (q : r ≡ Count k) where
+  module _ {k : ℕ} (q : r ≡ Ok k) where
     pub meaning : (m : Reference) × (read_whole Multiple s ≡ ok m k)
     meaning = counts Multiple (read_whole Multiple s) k (sym h.answers ∙ q)
 

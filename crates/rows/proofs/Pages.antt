@@ -1,5 +1,5 @@
 -- Rows put one after the other into a page: what the page holds and then the lines that are left are the lines from the start. Assumes nothing.
-use Prim.Native.Nat.{ℕ, ◌+◌, ◌-◌, ◌≤◌, ◌<◌}
+use Prim.Native.Nat.{ℕ, ◌+◌, ◌-◌, ◌≤◌}
 use mathlib.Core.Path.{◌≡◌, refl, sym, ap, ◌∙◌}
 use mathlib.Core.Bool.{Bool, true, false}
 use mathlib.Core.List.{List, [], ◌∷◌, ◌++◌, append_assoc}
@@ -15,22 +15,12 @@ use Rattle.reference.specs.Meaning.{Reference}
 use Rattle.reference.specs.Steps.{Answer, ok, refused}
 use Rattle.reference.specs.Today.{read_whole}
 use Rattle.records.specs.declared.Record.TheVariants.{Got}
-use Rattle.rows.specs.declared.Rows.{Rows}
 use Rattle.records.specs.Records.{record_at}
 use Rattle.records.specs.Walk.{Walked, before, walk_on}
-use Rattle.rows.specs.Rows.{refused_text, answer_text, row_of, lines_for, lines_of, lines_from, Rowed, Listed}
+use Rattle.rows.specs.Rows.{refused_text, answer_text, row_of, lines_for, lines_of, lines_from, Rowed}
 use Rattle.records.proofs.Recorded.{got_stands}
 use Rattle.records.proofs.Blocks.{got_there, content_there}
 use Rattle.records.proofs.Walk.{walk_got}
-
-abbrev pub up_to : ℕ → ℕ → ℕ → Bool → Rows
-up_to next count used full = record { next = next; seen = count; used = used; is_full = full }
-
-no_true : ◌≡◌ {A = Bool} false true → ⊥
-no_true e = let z : ◌≡◌ {A = ℕ} 0 1 = cc in omega arith
-
-no_false : ◌≡◌ {A = Bool} true false → ⊥
-no_false e = no_true (sym e)
 
 -- what was put stands behind what stood before it
 put_behind : {d xs e : List ℕ} {at r : ℕ} → Put d at (length xs) xs e r → take r e ≡ take at d ++ xs
@@ -73,12 +63,6 @@ begun asked base l at k page h =
     record { inside = h; later = omega arith; apart = omega arith; within = omega arith; short = omega arith; lines = λ front behind there. refl; counted = λ front behind. refl }
 
 module _ {asked : Bool} {base : ℕ} {l : List ℕ} {at k : ℕ} {page : List ℕ} {next count used : ℕ} (g : Rowed asked base l at k page next count used) where
-  pub when_full : length page < used + 128 → Listed asked base l at k page (up_to next count used true)
-  when_full h = record { rows = g; full = λ e. h; none = λ e. absurd (no_false e) }
-
-  pub when_none : ((a b : ℕ) → record_at l next ≡ Got a b → ⊥) → Listed asked base l at k page (up_to next count used false)
-  when_none h = record { rows = g; full = λ e. absurd (no_true e); none = λ e. h }
-
   pub turn : {a b : ℕ} → record_at l next ≡ Got a b → {page' : List ℕ} {used' : ℕ} → Written page used 128 (row_of asked (base + a) (count + 1) (part l a (b - a))) page' used'
       → Rowed asked base l at k page' b (count + 1) used'
   turn {a} {b} e {page'} {used'} w =

@@ -1,19 +1,19 @@
 // The rows of a cache's listing as octets. Where `is_where` is set they tell of a refused record, behind 01's columns, where it broke.
 #![tactic(auto)]
 
-ghost use Rattle.std.specs.Prelude.{◌+◌, ◌≤◌, ◌<◌, length};
+ghost use Rattle.std.specs.Prelude.{◌+◌, ◌≤◌, ◌<◌, ◌++◌, ◌∷◌, [], length};
+ghost use Rattle.text.specs.Text.{decimal};
 ghost use Rattle.text.specs.Written.{Written};
 ghost use Rattle.reference.specs.Today.{read_whole};
 ghost use Rattle.rows.specs.Rows.{heading, row_of, end_text, broken_text, found_text, where_text, refused_text, answer_text, Listed};
-ghost use Rattle.table.specs.Flat.{Lent};
 
 use lines::put_kind;
 use place_words::put_place;
 use questions::object_kind;
 use reading::read_whole_into;
 use records::{Record, record_at};
-use reference::{Answer, ObjectKind, Refusal};
-use table::{PROFILES_USED, TYPE_ID, TYPE_ID_LEN};
+use reference::{ObjectKind, Refusal};
+use table::{FlatTable, PROFILES_USED, TYPE_ID, TYPE_ID_LEN};
 use text::{put_decimal, put_octet, put_spaced, put_word};
 
 // The most octets of a row.
@@ -58,16 +58,16 @@ fn put_answer(
     is_where: bool,
     start: u64,
     s: &[u8],
-    table: &mut [u32],
+    table: &mut FlatTable,
     out: &mut [u8],
     at: usize,
 ) -> usize
-    requires { (Lent table.old) × (start + length s.now < 0x10000000000000000) × (at + 76 ≤ length out.old) }
+    requires { (start + length s.now < 0x10000000000000000) × (at + 76 ≤ length out.old) }
     ensures { Written out.old at 76 (answer_text is_where start (read_whole s.now)) out.new result }
 {
     match read_whole_into(s, table) {
-        Answer::Refused(why) => put_refused(why, is_where, start, out, at),
-        Answer::Count(_) => {
+        Err(why) => put_refused(why, is_where, start, out, at),
+        Ok(_) => {
             let id = table[TYPE_ID] as usize;
             let stop = id + table[TYPE_ID_LEN] as usize;
             let kind = object_kind(&s[id..stop]);
@@ -82,11 +82,11 @@ fn put_row(
     is_where: bool,
     start: u64,
     s: &[u8],
-    table: &mut [u32],
+    table: &mut FlatTable,
     out: &mut [u8],
     at: usize,
 ) -> usize
-    requires { (Lent table.old) × (start + length s.now < 0x10000000000000000) × (at + 128 ≤ length out.old) }
+    requires { (start + length s.now < 0x10000000000000000) × (at + 128 ≤ length out.old) }
     ensures { Written out.old at 128 (row_of is_where start number s.now) out.new result }
 {
     let size = put_decimal(out, at, number);
@@ -114,10 +114,10 @@ pub fn put_rows(
     at: usize,
     seen: u64,
     is_where: bool,
-    table: &mut [u32],
+    table: &mut FlatTable,
     page: &mut [u8],
 ) -> Rows
-    requires { (at ≤ length block.now) × (base + length block.now < 0x10000000000000000) × (seen + length block.now < 0x10000000000000000) × Lent table.old × (length page.old < 0x8000000000000000) }
+    requires { (at ≤ length block.now) × (base + length block.now < 0x10000000000000000) × (seen + length block.now < 0x10000000000000000) × (length page.old < 0x8000000000000000) }
     ensures { Listed is_where base block.now at seen page.new result }
 {
     let room = page.len();
@@ -164,18 +164,24 @@ pub fn put_heading(is_where: bool, out: &mut [u8; 80]) -> usize
     put_word(out, 0, b"record bytes kind profiles refusal\n")
 }
 
+// Words, a number and the end of the line.
+fn put_line(words: &[u8], n: u64, out: &mut [u8; 80]) -> usize
+    requires { length words.now ≤ 58 }
+    ensures { Written out.old 0 80 (words.now ++ (32 ∷ decimal n) ++ (10 ∷ [])) out.new result }
+{
+    let number = put_word(out, 0, words);
+    let end = put_spaced(out, number, n);
+    put_octet(out, end, b'\n')
+}
+
 pub fn put_end(count: u64, out: &mut [u8; 80]) -> usize
     ensures { Written out.old 0 80 (end_text count) out.new result }
 {
-    let number = put_word(out, 0, b"end");
-    let end = put_spaced(out, number, count);
-    put_octet(out, end, b'\n')
+    put_line(b"end", count, out)
 }
 
 pub fn put_broken(at: u64, out: &mut [u8; 80]) -> usize
     ensures { Written out.old 0 80 (broken_text at) out.new result }
 {
-    let number = put_word(out, 0, b"broken at");
-    let end = put_spaced(out, number, at);
-    put_octet(out, end, b'\n')
+    put_line(b"broken at", at, out)
 }

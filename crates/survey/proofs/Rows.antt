@@ -8,8 +8,8 @@ use native.Mathlib.Numerals.{add-one}
 use native.Mathlib.Omega.{arith}
 use lib.Bits.{bit_or}
 use lib.ListN.{take}
-use Rattle.reference.specs.declared.Check.{Check}
-use Rattle.reference.specs.declared.Check.TheVariants.{Pass, Refuse}
+use Rattle.reference.specs.Refusals.{Check}
+use Rattle.std.specs.Prelude.{Ok, Err}
 use Rattle.reference.specs.Checks.{both, each}
 use Rattle.reference.specs.Meaning.{sum}
 use Rattle.table.specs.Region.{listed}
@@ -20,20 +20,20 @@ use Rattle.survey.proofs.Marks.{or_more}
 
 -- ---- checks in a row
 
-both_pass : (a : Check) → a ≡ both a Pass
+both_pass : (a : Check) → a ≡ both a (Ok tt)
 unfolding both
-both_pass Pass = refl
-both_pass (Refuse r) = refl
+both_pass (Ok _) = refl
+both_pass (Err r) = refl
 
 pub both_more : (a b c : Check) → both (both a b) c ≡ both a (both b c)
 unfolding both
-both_more Pass b c = refl
-both_more (Refuse r) b c = refl
+both_more (Ok _) b c = refl
+both_more (Err r) b c = refl
 
 passing_both : (a b : Check) → (passing a && passing b) ≡ passing (both a b)
 unfolding both
-passing_both Pass b = refl
-passing_both (Refuse r) b = refl
+passing_both (Ok _) b = refl
+passing_both (Err r) b = refl
 
 -- ---- a list told by the index: the first of it, one more, and two by two
 

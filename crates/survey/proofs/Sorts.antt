@@ -15,15 +15,15 @@ use Rattle.survey.specs.Seen.{biop_seen, lite_seen, opaque_seen, profile_seen}
 
 module _ (t : List ℕ) (k : ℕ) where
   module _ (n : ℕ) where
-    pub seen_biop : get_or t k 0 ≡ 1 → biop_seen n t k ≡ profile_seen n t k
+    pub seen_biop : get_or t k 0 ≡ 1 → profile_seen n t k ≡ biop_seen n t k
     unfolding profile_seen
     seen_biop e = rw e
 
-    pub seen_lite : get_or t k 0 ≡ 2 → lite_seen n t k ≡ profile_seen n t k
+    pub seen_lite : get_or t k 0 ≡ 2 → profile_seen n t k ≡ lite_seen n t k
     unfolding profile_seen
     seen_lite e = rw e
 
-    pub seen_opaque : (get_or t k 0 ≡ 1 → ⊥) → (get_or t k 0 ≡ 2 → ⊥) → opaque_seen n t k ≡ profile_seen n t k
+    pub seen_opaque : (get_or t k 0 ≡ 1 → ⊥) → (get_or t k 0 ≡ 2 → ⊥) → profile_seen n t k ≡ opaque_seen n t k
     unfolding profile_seen
     seen_opaque a b = rw (ne_eqb (get_or t k 0) 1 a, ne_eqb (get_or t k 0) 2 b)
 
@@ -41,3 +41,6 @@ module _ (t : List ℕ) (k : ℕ) where
       let d = number t k w 4 (lit< tt) i in
       let e = number t k w 5 (lit< tt) i in
       pick (eqb a 1) (ltb b 65536 && ltb c 256 && ltb d 256) (pick (eqb a 2) (ltb b 16777216 && ltb c 65536 && ltb d 65536 && ltb e 65536) (eqb a 0))
+
+-- what the pass over a profile uses
+pub ruleset by_sort = (seen_biop, seen_lite, seen_opaque)

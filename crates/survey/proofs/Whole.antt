@@ -10,7 +10,7 @@ use lib.ListN.{get_or}
 use Rattle.reference.specs.declared.Refusal.{Refusal}
 use Rattle.reference.specs.declared.View.{View}
 use Rattle.reference.specs.declared.TaggedProfile.{TaggedProfile}
-use Rattle.reference.specs.declared.Check.{Check}
+use Rattle.reference.specs.Refusals.{Check}
 use Rattle.reference.specs.Steps.{pick}
 use Rattle.reference.specs.Checks.{test, both, each}
 use Rattle.reference.specs.Meaning.{sum}

@@ -1,8 +1,7 @@
 -- What one pass over a lent table finds. A mark is a number that stays below 65536 exactly if something holds. Assumes nothing.
-use Rattle.std.specs.Prelude.{ℕ, zero, suc, ◌+◌, ◌-◌, ◌*◌, ◌/◌, ◌≤◌, min, ◌≡◌, Bool, true, false, List, ltb, eqb}
+use Rattle.std.specs.Prelude.{ℕ, zero, suc, ◌+◌, ◌-◌, ◌*◌, ◌/◌, ◌≤◌, min, ◌≡◌, Bool, true, false, List, ltb, eqb, Ok, Err}
 use Rattle.std.specs.Int.Bits.{bit_or}
-use Rattle.reference.specs.declared.Check.{Check}
-use Rattle.reference.specs.declared.Check.TheVariants.{Pass, Refuse}
+use Rattle.reference.specs.Refusals.{Check}
 use Rattle.reference.specs.Steps.{pick}
 use Rattle.reference.specs.Used.{taps_in, names_in, extras_in}
 use Rattle.reference.specs.Writer.{counted, views_check}
@@ -17,8 +16,8 @@ abbrev pub holds : ℕ → Bool
 holds mark = ltb mark 65536
 
 abbrev pub passing : Check → Bool
-passing Pass = true
-passing (Refuse r) = false
+passing (Ok _) = true
+passing (Err r) = false
 
 -- ---- what an entry adds, with a view at .. at + len over a source of n octets
 

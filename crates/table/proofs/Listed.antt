@@ -46,3 +46,14 @@ pub listed_map : {E F : Type 0} (h : E → F) (n : ℕ) (f : ℕ → E) → map 
 unfolding listed
 listed_map h zero f = refl
 listed_map {F = F} h (suc n) f = ap (λ (r : List F). h (f 0) ∷ r) (listed_map h n (λ i. f (suc i)))
+
+-- a list that has these elements
+pub listed_whole : {E : Type 0} (n : ℕ) (f : ℕ → E) (xs : List E) → length xs ≡ n → ((i : ℕ) (z : E) → i < n → get_or xs i z ≡ f i) → xs ≡ listed n f
+unfolding listed
+listed_whole zero f [] h at = refl
+listed_whole zero f (x ∷ xs) h at = absurd (omega arith)
+listed_whole (suc n) f [] h at = absurd (omega arith)
+listed_whole (suc n) f (x ∷ xs) h at =
+    let p = at 0 x (omega arith) in
+    let q = listed_whole n (λ i. f (suc i)) xs (omega arith) (λ i z k. at (suc i) z (omega arith)) in
+    λ j. p j ∷ q j

@@ -113,15 +113,16 @@ stored_in g t k x h p = p ∙ sym (stored_one g t k x h)
 pub stored_out : {E : Type 0} (g : Region E) (t : List ℕ) (k : ℕ) (x : E) {t' : List ℕ} → g.size ≤ k → t' ≡ t → t' ≡ stored g t k (x ∷ [])
 stored_out g t k x h p = p ∙ sym (stored_full g t k (x ∷ []) h)
 
--- a loop that stores entry after entry: the first i of xs, and one more
-pub stored_more : {E : Type 0} (g : Region E) (t : List ℕ) (xs : List E) (i : ℕ) (z : E) → past g ≤ length t → i < length xs → i < g.size
-    → splice (stored g t 0 (take i xs)) (entry g i) (g.numbers (get_or xs i z)) ≡ stored g t 0 (take (i + 1) xs)
-stored_more g t xs i z room h s =
-    let x = get_or xs i z in
-    let u = stored g t 0 (take i xs) in
-    let e : i ≡ 0 + length (take i xs) = omega (arith, length-take-le i xs (le_of_lt h)) in
-    sym (stored_one g u i x s)
-    ∙ ap (λ (k : ℕ). stored g u k (x ∷ [])) e
+-- a loop that stores entry after entry: the first i of xs stand in u, and with x one more stands in u'
+pub stored_turn : {E : Type 0} (g : Region E) (t : List ℕ) (xs : List E) (i : ℕ) {x : E} {u u' : List ℕ} → past g ≤ length t → i < length xs → i < g.size → x ≡ get_or xs i x
+    → u ≡ stored g t 0 (take i xs) → u' ≡ splice u (entry g i) (g.numbers x) → u' ≡ stored g t 0 (take (i + 1) xs)
+stored_turn {E} g t xs i {x} {u} {u'} room h s e first then =
+    let k : i ≡ 0 + length (take i xs) = omega (arith, length-take-le i xs (le_of_lt h)) in
+    then
+    ∙ ap (λ (v : List ℕ). splice v (entry g i) (g.numbers x)) first
+    ∙ sym (stored_one g (stored g t 0 (take i xs)) i x s)
+    ∙ ap (λ (j : ℕ). stored g (stored g t 0 (take i xs)) j (x ∷ [])) k
     ∙ stored_append g t 0 room (take i xs) (x ∷ [])
-    ∙ ap (stored g t 0) (sym (take-suc xs i z h))
-    ∙ ap (λ (k : ℕ). stored g t 0 (take k xs)) (sym (add-one i))
+    ∙ ap (λ (y : E). stored g t 0 (take i xs ++ (y ∷ []))) e
+    ∙ ap (stored g t 0) (sym (take-suc xs i x h))
+    ∙ ap (λ (j : ℕ). stored g t 0 (take j xs)) (sym (add-one i))

@@ -1,4 +1,4 @@
-// Tables as 490 numbers in a slice that the caller lends: entries are stored into it. Reading and writing work on such a table, since a
+// Tables as 490 numbers in an array that the caller lends: entries are stored into it. Reading and writing work on such a table, since a
 // struct of the tables' size that goes through functions by value is copied at each. specs/Flat says which number is what.
 #![tactic(auto)]
 
@@ -6,14 +6,15 @@ ghost use Rattle.std.specs.Prelude.{◌≡◌, ◌+◌, ◌≤◌, ◌<◌, leng
 ghost use Rattle.octets.specs.Octets.{splice};
 ghost use Rattle.reference.specs.declared.TaggedProfile.TheVariants as Sort;
 ghost use Rattle.table.specs.Region.{entry};
-ghost use Rattle.table.specs.Flat.{tap_numbers, name_numbers, extra_numbers, body_numbers, front_numbers, profile_region, tap_region, name_region, extra_region, table_size, Lent};
+ghost use Rattle.table.specs.Flat.{tap_numbers, name_numbers, extra_numbers, body_numbers, front_numbers, profile_region, tap_region, name_region, extra_region, table_size};
 
 use reference::{
     EXTRAS, LiteComponent, NAMES, NameComponent, NsapAddress, ObjectLocation, PROFILES, TAPS, Tap,
     View,
 };
 
-// What stands where: at the front the type id's view and the used counts, then the entries of each sort, `WIDTH` numbers each.
+// What stands where: at the front the type id's view and the used counts, then the entries of each sort, `WIDTH` numbers each. Firmware reads and
+// writes these numbers in C (include/ior.h), so sorts and places are numbers here and not an enum and a struct.
 pub const TYPE_ID: usize = 0;
 
 pub const TYPE_ID_LEN: usize = 1;
@@ -44,6 +45,9 @@ pub const EXTRA_WIDTH: usize = 3;
 
 // How many numbers a table has: 490.
 pub const SIZE: usize = EXTRAS_AT + EXTRA_WIDTH * EXTRAS;
+
+// A table as the caller lends it.
+pub type FlatTable = [u32; SIZE];
 
 // The first number of a profile's entry: its sort.
 pub const OPAQUE: u32 = 0;
@@ -111,18 +115,11 @@ pub const DATA_AT: usize = 1;
 pub const DATA_LEN: usize = 2;
 
 // How many entries of each table are used so far; an entry past a table's end is counted and not stored.
-#[derive(Clone, Copy)]
+#[derive(Clone, Copy, Default)]
 pub struct Counts {
     pub taps: usize,
     pub names: usize,
     pub extras: usize,
-}
-
-// The cast apart: of a parameter its type says that it fits, of a slice's number a proof would have to.
-fn wide(v: u32) -> usize
-    ensures { (result ≡ v) × (result < 0x100000000) }
-{
-    v as usize
 }
 
 // Number k, where it is a count or a length.
@@ -130,7 +127,7 @@ pub fn number_at(t: &[u32], k: usize) -> usize
     requires { k < length t.now }
     ensures { (result ≡ get_or t.now k 0) × (result < 0x100000000) }
 {
-    wide(t[k])
+    t[k] as usize
 }
 
 // The numbers one after the other from `at` on.
@@ -138,26 +135,26 @@ pub fn put_all(numbers: &[u32], out: &mut [u32], at: usize)
     requires { at + length numbers.now ≤ length out.old }
     ensures { out.new ≡ splice out.old at numbers.now }
 {
-    let n = numbers.len();
-    let mut i = 0;
-    while i < n {
-        let t = at + i;
-        out[t] = numbers[i];
-        i += 1;
-    }
+    out[at..at + numbers.len()].copy_from_slice(numbers);
 }
 
 // The six numbers at the front: the type id's view and the used counts.
-pub fn put_front(type_id: View, profiles: u32, taps: u32, names: u32, extras: u32, out: &mut [u32])
-    requires { Lent out.old }
+pub fn put_front(
+    type_id: View,
+    profiles: u32,
+    taps: u32,
+    names: u32,
+    extras: u32,
+    out: &mut FlatTable,
+)
     ensures { out.new ≡ splice out.old 0 (front_numbers type_id profiles taps names extras) }
 {
     let numbers = [type_id.at, type_id.len, profiles, taps, names, extras];
     put_all(&numbers, out, 0);
 }
 
-pub fn put_tap(tap: Tap, out: &mut [u32], i: usize)
-    requires { (i < tap_region.size) × Lent out.old }
+pub fn put_tap(tap: Tap, out: &mut FlatTable, i: usize)
+    requires { i < tap_region.size }
     ensures { out.new ≡ splice out.old (entry tap_region i) (tap_numbers tap) }
 {
     let numbers = [
@@ -170,32 +167,32 @@ pub fn put_tap(tap: Tap, out: &mut [u32], i: usize)
     put_all(&numbers, out, TAPS_AT + TAP_WIDTH * i);
 }
 
-pub fn put_name(name: NameComponent, out: &mut [u32], i: usize)
-    requires { (i < name_region.size) × Lent out.old }
+pub fn put_name(name: NameComponent, out: &mut FlatTable, i: usize)
+    requires { i < name_region.size }
     ensures { out.new ≡ splice out.old (entry name_region i) (name_numbers name) }
 {
     let numbers = [name.id.at, name.id.len, name.kind.at, name.kind.len];
     put_all(&numbers, out, NAMES_AT + NAME_WIDTH * i);
 }
 
-pub fn put_extra(extra: LiteComponent, out: &mut [u32], i: usize)
-    requires { (i < extra_region.size) × Lent out.old }
+pub fn put_extra(extra: LiteComponent, out: &mut FlatTable, i: usize)
+    requires { i < extra_region.size }
     ensures { out.new ≡ splice out.old (entry extra_region i) (extra_numbers extra) }
 {
     let numbers = [extra.tag, extra.data.at, extra.data.len];
     put_all(&numbers, out, EXTRAS_AT + EXTRA_WIDTH * i);
 }
 
-pub fn put_opaque(tag: u32, data: View, out: &mut [u32], i: usize)
-    requires { (i < profile_region.size) × Lent out.old }
+pub fn put_opaque(tag: u32, data: View, out: &mut FlatTable, i: usize)
+    requires { i < profile_region.size }
     ensures { out.new ≡ splice out.old (entry profile_region i) (body_numbers (Sort.Opaque tag «data»)) }
 {
     let numbers = [OPAQUE, tag, data.at, data.len, 0, 0, 0, 0, 0, 0];
     put_all(&numbers, out, PROFILES_AT + PROFILE_WIDTH * i);
 }
 
-pub fn put_biop(location: ObjectLocation, taps: u32, extras: u32, out: &mut [u32], i: usize)
-    requires { (i < profile_region.size) × Lent out.old }
+pub fn put_biop(location: ObjectLocation, taps: u32, extras: u32, out: &mut FlatTable, i: usize)
+    requires { i < profile_region.size }
     ensures { out.new ≡ splice out.old (entry profile_region i) (body_numbers (Sort.Biop location taps extras)) }
 {
     let numbers = [
@@ -218,18 +215,21 @@ pub fn put_lite(
     names: u32,
     context: View,
     extras: u32,
-    out: &mut [u32],
+    out: &mut FlatTable,
     i: usize,
 )
-    requires { (i < profile_region.size) × Lent out.old }
+    requires { i < profile_region.size }
     ensures { out.new ≡ splice out.old (entry profile_region i) (body_numbers (Sort.LiteOptions address names context extras)) }
 {
     let numbers = [
         LITE_OPTIONS,
         address.carousel,
-        (address.specifier0 as u32) * 65536
-            + (address.specifier1 as u32) * 256
-            + (address.specifier2 as u32),
+        u32::from_be_bytes([
+            0,
+            address.specifier0,
+            address.specifier1,
+            address.specifier2,
+        ]),
         address.transport_stream as u32,
         address.original_network as u32,
         address.service as u32,
@@ -242,13 +242,8 @@ pub fn put_lite(
 }
 
 // All numbers zero: the empty tables.
-pub fn clear(out: &mut [u32])
-    requires { Lent out.old }
+pub fn clear(out: &mut FlatTable)
     ensures { out.new ≡ replicate table_size 0 }
 {
-    let mut i: usize = 0;
-    while i < SIZE {
-        out[i] = 0;
-        i += 1;
-    }
+    out.fill(0);
 }

@@ -45,3 +45,6 @@ module _ (t : List ℕ) (k : ℕ) where
       go : (b : Bool) → names_in (pick b (biop_from t k) (opaque_from t k)) ≡ 0
       go true = refl
       go false = refl
+
+-- what a function uses that goes by the sort
+pub ruleset by_sort = (body_biop, body_lite, body_opaque, no_taps_lem, no_names_lem)

@@ -1,4 +1,4 @@
-pub mod Storing
+pub mod FromFn
 pub mod Whole
 pub mod Back
 pub mod Accepted

@@ -7,12 +7,15 @@ use lib.ListN.{length, length-append, length-map, drop_of_length-le}
 use lib.Seq.{take_all}
 use Rattle.octets.specs.Octets.{joined, splice}
 use Rattle.octets.proofs.Splice.{splice_none, splice_splice, splice_comm}
+use Rattle.reference.specs.declared.Profile.{Profile}
+use Rattle.reference.specs.declared.TaggedProfile.{TaggedProfile}
 use Rattle.reference.specs.declared.Tables.{Tables}
 use Rattle.reference.specs.Typed.{Typed}
 use Rattle.table.specs.Region.{Region, stored, entry}
 use Rattle.table.specs.Flat.{body_numbers, tap_numbers, name_numbers, extra_numbers, front_numbers, profile_region, tap_region, name_region, extra_region, flat, bodies, table_size, Lent}
 use Rattle.table.specs.Filed.{filed, no_counts}
 use Rattle.table.proofs.Stored.{numbers_length}
+use Rattle.table_entries.specs.Entries.{whole_profile_region}
 
 -- all entries of a sort, whose region begins where what was put ends
 stored_next : {E : Type 0} (g : Region E) (t : List ℕ) (a : ℕ) (done : List ℕ) (xs : List E) → length xs ≡ g.size → a + length done ≡ g.start → a ≤ length t
@@ -29,6 +32,15 @@ splice_all d xs h = let e : length d ≤ 0 + length xs = omega arith in ap (λ (
 
 abbrev pub front_of : Tables → List ℕ
 front_of x = front_numbers x.type_id x.profiles_used x.taps_used x.names_used x.extras_used
+
+-- all profiles: as entries, and body by body
+pub whole_stored : (t : List ℕ) (ps : List Profile) → length ps ≡ profile_region.size → stored whole_profile_region t 0 ps ≡ stored profile_region t 0 (bodies ps)
+unfolding stored
+whole_stored t ps h =
+    let at = entry profile_region 0 in
+    ap (λ (l : List Profile). splice t at (joined (map (λ p. body_numbers p.body) l))) (take_all 8 ps (omega arith))
+    ∙ ap (λ (l : List (List ℕ)). splice t at (joined l)) (sym (map-map body_numbers (λ p. p.body) ps))
+    ∙ ap (λ (l : List TaggedProfile). splice t at (joined (map body_numbers l))) (sym (take_all 8 (bodies ps) (omega (arith, length-map ps (λ p. p.body)))))
 
 module _ (x : Tables) (y : Typed x) where
   abbrev bs : List ℕ

@@ -2,269 +2,62 @@
 // with no talk of counts.
 #![tactic(auto)]
 
-ghost use Rattle.std.specs.Prelude.{◌≡◌, ◌<◌};
-ghost use Rattle.octets.specs.Octets.{splice};
-ghost use Rattle.table.specs.Region.{stored, entry};
-ghost use Rattle.table.specs.Flat.{body_numbers, profile_region, tap_region, name_region, extra_region, tables_from, flat, Lent, profile_of_table, biop_from, lite_from, opaque_from, bodies};
+ghost use Rattle.std.specs.Prelude.{◌≡◌, ◌≤◌, length};
+ghost use Rattle.table.specs.Region.{stored, listed};
+ghost use Rattle.table.specs.Flat.{tables_from, flat};
 
-use reference::{
-    EXTRAS, LiteComponent, NAMES, NameComponent, PROFILES, Profile, TAPS, Tables, TaggedProfile,
-    Tap, View,
-};
-use table::{
-    BIOP, BIOP_EXTRAS, BIOP_TAPS, CONTEXT_AT, CONTEXT_LEN, EXTRAS_USED, LITE_EXTRAS, LITE_NAMES,
-    LITE_OPTIONS, NAMES_USED, OPAQUE_AT, OPAQUE_LEN, OPAQUE_TAG, PROFILE_WIDTH, PROFILES_AT,
-    PROFILES_USED, TAPS_USED, TYPE_ID, put_biop, put_extra, put_front, put_lite, put_name,
-    put_opaque, put_tap,
-};
-use table_entries::{address_at, extra_at, location_at, name_at, sort_at, tap_at, view_at};
+use reference::Tables;
+use std::array;
+use table::{EXTRAS_USED, FlatTable, NAMES_USED, PROFILES_USED, TAPS_USED, TYPE_ID, put_front};
+pub use table_entries::profile_at;
+use table_entries::{Entry, view_at};
 
 // ---- out of the lent table
 
-fn biop_at(s: &[u32], i: usize) -> TaggedProfile
-    requires { (i < profile_region.size) × Lent s.now }
-    ensures { result ≡ biop_from s.now (entry profile_region i) }
+fn entries_of<E: Entry, const N: usize>(s: &FlatTable) -> [E; N]
+    requires { N ≤ E.region.size }
+    ensures { result ≡ listed N (E.told s.now) }
 {
-    let at = PROFILES_AT + PROFILE_WIDTH * i;
-    let location = location_at(s, i);
-    TaggedProfile::Biop {
-        location,
-        taps: s[at + BIOP_TAPS],
-        extras: s[at + BIOP_EXTRAS],
-    }
+    array::from_fn(|i| E::at(s, i))
 }
 
-fn lite_at(s: &[u32], i: usize) -> TaggedProfile
-    requires { (i < profile_region.size) × Lent s.now }
-    ensures { result ≡ lite_from s.now (entry profile_region i) }
-{
-    let at = PROFILES_AT + PROFILE_WIDTH * i;
-    let address = address_at(s, i);
-    let context = View {
-        at: s[at + CONTEXT_AT],
-        len: s[at + CONTEXT_LEN],
-    };
-    TaggedProfile::LiteOptions {
-        address,
-        names: s[at + LITE_NAMES],
-        context,
-        extras: s[at + LITE_EXTRAS],
-    }
-}
-
-fn opaque_at(s: &[u32], i: usize) -> TaggedProfile
-    requires { (i < profile_region.size) × Lent s.now }
-    ensures { result ≡ opaque_from s.now (entry profile_region i) }
-{
-    let at = PROFILES_AT + PROFILE_WIDTH * i;
-    let data = View {
-        at: s[at + OPAQUE_AT],
-        len: s[at + OPAQUE_LEN],
-    };
-    TaggedProfile::Opaque {
-        tag: s[at + OPAQUE_TAG],
-        data,
-    }
-}
-
-pub fn profile_at(s: &[u32], i: usize) -> Profile
-    requires { (i < profile_region.size) × Lent s.now }
-    ensures { result ≡ profile_of_table s.now i }
-{
-    let sort = sort_at(s, i);
-    if sort == BIOP {
-        let body = biop_at(s, i);
-        return Profile { body };
-    }
-    if sort == LITE_OPTIONS {
-        let body = lite_at(s, i);
-        return Profile { body };
-    }
-    let body = opaque_at(s, i);
-    Profile { body }
-}
-
-fn profiles_of(s: &[u32]) -> [Profile; PROFILES]
-    requires { Lent s.now }
-    ensures { result ≡ (tables_from s.now).profiles }
-{
-    let body = TaggedProfile::Opaque {
-        tag: 0,
-        data: View { at: 0, len: 0 },
-    };
-    let none = Profile { body };
-    let mut all = [none; PROFILES];
-    let mut i = 0;
-    while i < PROFILES {
-        let p = profile_at(s, i);
-        all[i] = p;
-        i += 1;
-    }
-    all
-}
-
-fn taps_of(s: &[u32]) -> [Tap; TAPS]
-    requires { Lent s.now }
-    ensures { result ≡ (tables_from s.now).taps }
-{
-    let none = Tap {
-        id: 0,
-        use_: 0,
-        association: 0,
-        selector: View { at: 0, len: 0 },
-    };
-    let mut all = [none; TAPS];
-    let mut i = 0;
-    while i < TAPS {
-        let t = tap_at(s, i);
-        all[i] = t;
-        i += 1;
-    }
-    all
-}
-
-fn names_of(s: &[u32]) -> [NameComponent; NAMES]
-    requires { Lent s.now }
-    ensures { result ≡ (tables_from s.now).names }
-{
-    let v = View { at: 0, len: 0 };
-    let none = NameComponent { id: v, kind: v };
-    let mut all = [none; NAMES];
-    let mut i = 0;
-    while i < NAMES {
-        let n = name_at(s, i);
-        all[i] = n;
-        i += 1;
-    }
-    all
-}
-
-fn extras_of(s: &[u32]) -> [LiteComponent; EXTRAS]
-    requires { Lent s.now }
-    ensures { result ≡ (tables_from s.now).extras }
-{
-    let none = LiteComponent {
-        tag: 0,
-        data: View { at: 0, len: 0 },
-    };
-    let mut all = [none; EXTRAS];
-    let mut i = 0;
-    while i < EXTRAS {
-        let e = extra_at(s, i);
-        all[i] = e;
-        i += 1;
-    }
-    all
-}
-
-pub fn tables_of(s: &[u32]) -> Tables
-    requires { Lent s.now }
+#[tactic(auto, unfolding(table::specs::Flat::tables_from))]
+pub fn tables_of(s: &FlatTable) -> Tables
     ensures { result ≡ tables_from s.now }
 {
-    let type_id = view_at(s, TYPE_ID);
-    let profiles = profiles_of(s);
-    let taps = taps_of(s);
-    let names = names_of(s);
-    let extras = extras_of(s);
     Tables {
-        type_id,
+        type_id: view_at(s, TYPE_ID),
         profiles_used: s[PROFILES_USED],
         taps_used: s[TAPS_USED],
         names_used: s[NAMES_USED],
         extras_used: s[EXTRAS_USED],
-        profiles,
-        taps,
-        names,
-        extras,
+        profiles: entries_of(s),
+        taps: entries_of(s),
+        names: entries_of(s),
+        extras: entries_of(s),
     }
 }
 
 // ---- into the lent table
 
-fn put_profile(p: Profile, out: &mut [u32], i: usize)
-    requires { (i < profile_region.size) × Lent out.old }
-    ensures { out.new ≡ splice out.old (entry profile_region i) (body_numbers p.body) }
+fn put_entries<E: Entry>(all: &[E], out: &mut FlatTable)
+    requires { length all.now ≡ E.region.size }
+    ensures { out.new ≡ stored E.region out.old 0 all.now }
 {
-    let body = p.body;
-    match body {
-        TaggedProfile::Opaque { tag, data } => put_opaque(tag, data, out, i),
-        TaggedProfile::Biop {
-            location,
-            taps,
-            extras,
-        } => put_biop(location, taps, extras, out, i),
-        TaggedProfile::LiteOptions {
-            address,
-            names,
-            context,
-            extras,
-        } => put_lite(address, names, context, extras, out, i),
+    for (i, one) in all.iter().enumerate() {
+        one.put(out, i);
     }
 }
 
-fn put_profiles(all: [Profile; PROFILES], out: &mut [u32])
-    requires { Lent out.old }
-    ensures { out.new ≡ stored profile_region out.old 0 (bodies all) }
-{
-    let mut i = 0;
-    while i < PROFILES {
-        let p = all[i];
-        put_profile(p, out, i);
-        i += 1;
-    }
-}
-
-fn put_taps(all: [Tap; TAPS], out: &mut [u32])
-    requires { Lent out.old }
-    ensures { out.new ≡ stored tap_region out.old 0 all }
-{
-    let mut i = 0;
-    while i < TAPS {
-        let t = all[i];
-        put_tap(t, out, i);
-        i += 1;
-    }
-}
-
-fn put_names(all: [NameComponent; NAMES], out: &mut [u32])
-    requires { Lent out.old }
-    ensures { out.new ≡ stored name_region out.old 0 all }
-{
-    let mut i = 0;
-    while i < NAMES {
-        let n = all[i];
-        put_name(n, out, i);
-        i += 1;
-    }
-}
-
-fn put_extras(all: [LiteComponent; EXTRAS], out: &mut [u32])
-    requires { Lent out.old }
-    ensures { out.new ≡ stored extra_region out.old 0 all }
-{
-    let mut i = 0;
-    while i < EXTRAS {
-        let e = all[i];
-        put_extra(e, out, i);
-        i += 1;
-    }
-}
-
-pub fn put_tables(t: Tables, out: &mut [u32])
-    requires { Lent out.old }
+pub fn put_tables(t: Tables, out: &mut FlatTable)
     ensures { out.new ≡ flat t }
 {
-    let profiles = t.profiles;
-    put_profiles(profiles, out);
-    let taps = t.taps;
-    put_taps(taps, out);
-    let names = t.names;
-    put_names(names, out);
-    let extras = t.extras;
-    put_extras(extras, out);
-    let type_id = t.type_id;
+    put_entries(&t.profiles, out);
+    put_entries(&t.taps, out);
+    put_entries(&t.names, out);
+    put_entries(&t.extras, out);
     put_front(
-        type_id,
+        t.type_id,
         t.profiles_used,
         t.taps_used,
         t.names_used,

@@ -7,14 +7,13 @@ ghost use Rattle.octets.specs.Put.{Put};
 ghost use Rattle.text.specs.Text.{decimal, glyph, hex, hexes};
 ghost use Rattle.text.specs.Written.{Written};
 
-use octets::{copy, put32};
+use octets::{copy, put_run};
 
 pub fn put_octet(out: &mut [u8], at: usize, c: u8) -> usize
     requires { at < length out.old }
     ensures { Put out.old at 1 (c ∷ []) out.new result }
 {
-    out[at] = c;
-    at + 1
+    put_run(out, at, [c])
 }
 
 // The octets of a word as they stand.
@@ -57,7 +56,7 @@ fn digit(v: u8) -> u8
     requires { v < 16 }
     ensures { result ≡ glyph v }
 {
-    if v < 10 { b'0' + v } else { 87 + v }
+    if v < 10 { b'0' + v } else { b'a' - 10 + v }
 }
 
 // Two lowercase hexadecimal digits.
@@ -65,8 +64,7 @@ pub fn put_hex(out: &mut [u8], at: usize, v: u8) -> usize
     requires { at + 2 ≤ length out.old }
     ensures { Put out.old at 2 (hex v) out.new result }
 {
-    let low = put_octet(out, at, digit(v / 16));
-    put_octet(out, low, digit(v % 16))
+    put_run(out, at, [digit(v / 16), digit(v % 16)])
 }
 
 // The hexadecimal digits of each octet of `s`.
@@ -74,13 +72,9 @@ pub fn put_hexes(out: &mut [u8], at: usize, s: &[u8]) -> usize
     requires { at + 2 * length s.now ≤ length out.old }
     ensures { Put out.old at (2 * length s.now) (hexes s.now) out.new result }
 {
-    let n = s.len();
     let mut next = at;
-    let mut i: usize = 0;
-    while i < n {
-        let v = s[i];
-        next = put_hex(out, next, v);
-        i += 1;
+    for v in s {
+        next = put_hex(out, next, *v);
     }
     next
 }
@@ -90,7 +84,5 @@ pub fn put_hex32(out: &mut [u8], at: usize, v: u32) -> usize
     requires { at + 8 ≤ length out.old }
     ensures { Put out.old at 8 (hexes (octets 4 v)) out.new result }
 {
-    let mut four = [0u8; 4];
-    put32(&mut four, 0, v);
-    put_hexes(out, at, &four)
+    put_hexes(out, at, &v.to_be_bytes())
 }

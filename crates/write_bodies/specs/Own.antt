@@ -16,10 +16,15 @@ use Rattle.reference.specs.Used.{Own}
 use Rattle.reference.specs.Contents.{shown, name_of}
 use Rattle.reference.specs.Today.{address_of, profile_of}
 use Rattle.reference.specs.Writer.{binder_size, body_size, own_size}
+use Rattle.table.specs.Region.{Region, listed}
 use Rattle.table.specs.Flat.{tables_from}
 use Rattle.write_parts.specs.Sound.{Within, TapSound, NameSound, ExtraSound, LocationSound}
 
 -- ---- the n entries of a table from a on
+
+-- .. of the sort that stands in region g; `told` gives entry i
+abbrev pub entries_on : {E : Type 0} → Region E → (List ℕ → ℕ → E) → List ℕ → ℕ → ℕ → List E
+entries_on g told t a n = part (listed g.size (told t)) a n
 
 abbrev pub taps_on : List ℕ → ℕ → ℕ → List Tap
 taps_on t a n = part (tables_from t).taps a n

@@ -1,13 +1,13 @@
 -- A loop that writes entries, over the sort of entry and its writer: what it has put and what is left make the whole. Assumes nothing.
-use mathlib.Core.Path.{◌≡◌, refl, sym, ap, ◌∙◌, subst}
+use mathlib.Core.Path.{◌≡◌, refl, ap, ◌∙◌, subst}
 use Prim.Native.Nat.{ℕ, ◌+◌, ◌≤◌}
-use native.Mathlib.Nat.{zero-add, add-zero, add_assoc}
+use native.Mathlib.Nat.{zero-add, add_assoc}
 use native.Mathlib.Omega.{arith}
-use mathlib.Core.List.{List, [], ◌∷◌, ◌++◌, map, append_assoc, append-nil}
+use mathlib.Core.List.{List, [], ◌∷◌, ◌++◌, map, append_assoc}
 use lib.ListN.{length}
 use Rattle.octets.specs.Octets.{Each, joined}
 use Rattle.octets.specs.Put.{Put}
-use Rattle.octets.proofs.Put.{none, then, same, kept}
+use Rattle.octets.proofs.Put.{none, then, kept}
 use Rattle.reference.specs.Meaning.{sum}
 
 -- Entries mean f, lay is what a meaning looks like, g the size, P what the writer asks. Of `all`, everything but xs was put into d from at on,
@@ -44,11 +44,3 @@ module _ {A B : Type 0} {f : A → B} {lay : B → List ℕ} {g : A → ℕ} {P 
 
     pub room : at + sum g all ≤ length d → r + g x ≤ length e
     room h = omega (arith, ap (sum g) o, l.put.next, l.sums, kept l.put)
-
-  pub long : {xs : List A} {e : List ℕ} {r : ℕ} → Left f lay g P d at all xs e r → length e ≡ length d
-  long l = kept l.put
-
-  pub end : {xs : List A} {e : List ℕ} {r : ℕ} → xs ≡ [] → Left f lay g P d at all xs e r → Put d at (sum g all) (joined (map lay (map f all))) e r
-  end {xs} {e} {r} o l =
-      let m : Left f lay g P d at all [] e r = subst (λ (q : List A). Left f lay g P d at all q e r) o l in
-      same m.put (sym (add-zero m.count) ∙ m.sums) (sym (append-nil m.done) ∙ m.whole) refl

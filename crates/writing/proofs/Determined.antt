@@ -5,7 +5,7 @@ use mathlib.Core.List.{List}
 use Rattle.reference.specs.declared.TypeIdRule.{TypeIdRule}
 use Rattle.reference.specs.declared.AddressWay.{AddressWay}
 use Rattle.reference.specs.declared.Tables.{Tables}
-use Rattle.reference.specs.declared.Answer.{Answer as Told}
+use Rattle.reference.specs.Refusals.{Told}
 use Rattle.reference.specs.Writer.{measured}
 use Rattle.writing.specs.Writes.{Writes}
 

@@ -2,7 +2,7 @@
 -- left. Assumes nothing.
 use Prim.Native.Nat.{ℕ, ◌+◌, ◌<◌, ◌≤◌}
 use mathlib.Core.Path.{◌≡◌, sym, ap, ◌∙◌}
-use mathlib.Core.List.{List, [], ◌∷◌, map}
+use mathlib.Core.List.{List, ◌∷◌, map}
 use native.Mathlib.Omega.{arith}
 use lib.ListN.{length, take, get_or}
 use lib.Seq.{get_or-take, length-take-le}
@@ -11,7 +11,7 @@ use Rattle.reference.specs.declared.Profile.{Profile}
 use Rattle.reference.specs.Used.{Used, Own, owned_of, taps_in, names_in, extras_in}
 use Rattle.reference.specs.Tabled.{no_profile}
 use Rattle.reference.specs.Writer.{counted}
-use Rattle.reference.proofs.Walk.{some, some_used, ahead, ahead_open, ahead_end, counted_open, counted_within}
+use Rattle.reference.proofs.Walk.{some, some_used, ahead, ahead_open, counted_open, counted_within}
 use Rattle.reference.proofs.Agreeing.{AgreeingIn}
 use Rattle.reference.proofs.Formed.{length_owned}
 use Rattle.reference.proofs.Sizes.{length-map}
@@ -44,10 +44,6 @@ module _ (t : List ℕ) (p : AgreeingIn (tables_from t)) where
   pub meanings_count : {B : Type 0} (g : Own → B) → length (map g (owned_of (used_in t))) ≡ get_or t 2 0
   meanings_count g =
       length-map g (owned_of (used_in t)) ∙ length_owned (used_in t).profiles (used_in t).taps (used_in t).names (used_in t).extras ∙ profiles_count ∙ profiles_used_lem t
-
-  pub left_end : (i : ℕ) (f : Counts) → (tables_from t).profiles_used ≤ i → left_at t i f ≡ []
-  left_end i f h =
-      ahead_end (used_in t).profiles (used_in t).taps (used_in t).names (used_in t).extras no_profile i f.taps f.names f.extras (omega (arith, profiles_count))
 
   module _ (i : ℕ) (f : Counts) (w : Walked t i f) (h : i < (tables_from t).profiles_used) where
     here_body : (get_or (used_in t).profiles i no_profile).body ≡ body_of_table t i

@@ -3,7 +3,7 @@ use Rattle.std.specs.Prelude.{◌≡◌, List, ℕ}
 use Rattle.reference.specs.declared.TypeIdRule.{TypeIdRule}
 use Rattle.reference.specs.declared.AddressWay.{AddressWay}
 use Rattle.reference.specs.declared.Tables.{Tables}
-use Rattle.reference.specs.declared.Answer.{Answer as Told}
+use Rattle.reference.specs.Refusals.{Told}
 use Rattle.reference.specs.Writer as Writer
 
 -- the tables t over the source s, under the rule and in the way, into an output that held d and then holds e; r is the answer

@@ -2,10 +2,9 @@
 // check has passed.
 #![tactic(auto)]
 
-ghost use Rattle.std.specs.Prelude.{◌≡◌, ◌+◌, ◌≤◌, ◌<◌, length};
+ghost use Rattle.std.specs.Prelude.{◌≡◌, ◌+◌, ◌≤◌, ◌<◌, length, Ok};
 ghost use Rattle.octets.specs.Octets.{Each};
 ghost use Rattle.octets.specs.Put.{Put};
-ghost use Rattle.reference.specs.declared.Check.TheVariants.{Pass};
 ghost use Rattle.reference.specs.Layout.{layout_profile};
 ghost use Rattle.reference.specs.Tabled.{used_of};
 ghost use Rattle.reference.specs.Used.{owned_of};
@@ -16,7 +15,7 @@ ghost use Rattle.reference.specs.Checks.{both, each};
 ghost use Rattle.reference.specs.Meaning.{sum};
 ghost use Rattle.reference.specs.Writer.{own_size, size_of, image_of, counts_check, room_check, type_check, own_short, measure_check, write_check};
 ghost use Rattle.reference.specs.Writer as Writer;
-ghost use Rattle.table.specs.Flat.{body_of_table, tables_from, profile_region, Lent};
+ghost use Rattle.table.specs.Flat.{body_of_table, tables_from, profile_region};
 ghost use Rattle.write_bodies.specs.Own.{OwnSound, PutAll, PutOwn};
 ghost use Rattle.writing.specs.Own.{counts_in, own_on, after_of, Placed};
 ghost use Rattle.writing.specs.Writes as By;
@@ -28,7 +27,7 @@ use reference::{
     AddressWay, Answer, Check, PLACE_TYPE_ID_LENGTH, Tables, TypeIdRule, allows, no_room, wrong,
 };
 use survey::survey_of;
-use table::{BIOP, Counts, LITE_OPTIONS, PROFILES_USED, SIZE, TYPE_ID, number_at};
+use table::{BIOP, Counts, FlatTable, LITE_OPTIONS, PROFILES_USED, SIZE, TYPE_ID, number_at};
 use table_entries::{
     address_at, extras_at, location_at, names_at, profile_view, sort_at, tag_at, taps_at, view_at,
 };
@@ -37,8 +36,8 @@ use write_bodies::{write_biop, write_lite, write_opaque};
 use write_parts::write_type_id;
 
 // How many entries profile i counts.
-fn counts_at(t: &[u32], i: usize) -> Counts
-    requires { (i < profile_region.size) × Lent t.now }
+fn counts_at(t: &FlatTable, i: usize) -> Counts
+    requires { i < profile_region.size }
     ensures { result ≡ counts_in (body_of_table t.now i) }
 {
     Counts {
@@ -62,7 +61,7 @@ fn after(first: Counts, count: Counts) -> Counts
 
 // Profile i, whose entries begin at `first`.
 fn write_profile(
-    t: &[u32],
+    t: &FlatTable,
     i: usize,
     first: Counts,
     count: Counts,
@@ -70,72 +69,42 @@ fn write_profile(
     out: &mut [u8],
     at: usize,
 ) -> usize
-    requires i_lt_size { (i < profile_region.size) × Lent t.now }
+    requires i_lt_size { i < profile_region.size }
     requires count_value { (count ≡ counts_in (body_of_table t.now i)) × (Placed first count) }
     requires own_sound { OwnSound (length src.now) (own_on t.now i first) }
     requires first_in_bounds { at + own_size (own_on t.now i first) ≤ length out.old }
     ensures { PutOwn out.old at src.now (own_on t.now i first) out.new result }
 {
-    let sort = sort_at(t, i);
-    if sort == BIOP {
-        let location = location_at(t, i);
-        return write_biop(
-            location,
-            t,
-            first.taps,
-            count.taps,
-            first.extras,
-            count.extras,
-            src,
-            out,
-            at,
-        );
+    match sort_at(t, i) {
+        BIOP => write_biop(location_at(t, i), t, first, count, src, out, at),
+        LITE_OPTIONS => {
+            let address = address_at(t, i);
+            write_lite(address, profile_view(t, i), t, first, count, src, out, at)
+        }
+        _ => write_opaque(tag_at(t, i), profile_view(t, i), src, out, at),
     }
-    let view = profile_view(t, i);
-    if sort == LITE_OPTIONS {
-        let address = address_at(t, i);
-        return write_lite(
-            address,
-            view,
-            t,
-            first.names,
-            count.names,
-            first.extras,
-            count.extras,
-            src,
-            out,
-            at,
-        );
-    }
-    write_opaque(tag_at(t, i), view, src, out, at)
 }
 
 // The profiles, one after the other.
-fn write_profiles(t: &[u32], src: &[u8], out: &mut [u8], at: usize) -> usize
-    requires lent { Lent t.now × (counts_check (tables_from t.now) ≡ Pass) × Each (OwnSound (length src.now)) (owned_of (used_of (tables_from t.now))) }
+fn write_profiles(t: &FlatTable, src: &[u8], out: &mut [u8], at: usize) -> usize
+    requires counted_and_sound { (counts_check (tables_from t.now) ≡ Ok tt) × Each (OwnSound (length src.now)) (owned_of (used_of (tables_from t.now))) }
     requires t_in_bounds { at + sum own_size (owned_of (used_of (tables_from t.now))) ≤ length out.old }
     ensures { PutAll (profile_of src.now) layout_profile own_size out.old at (owned_of (used_of (tables_from t.now))) out.new result }
 {
     let used = number_at(t, PROFILES_USED);
-    let mut first = Counts {
-        taps: 0,
-        names: 0,
-        extras: 0,
-    };
+    let mut first = Counts::default();
     let mut pos = at;
-    let mut i: usize = 0;
-    while i < used {
+    for i in 0..used {
         let count = counts_at(t, i);
         pos = write_profile(t, i, first, count, src, out, pos);
         first = after(first, count);
-        i += 1;
     }
     pos
 }
 
 // The whole image under the rule, at the start of the output.
-fn write_image(t: &[u32], src: &[u8], out: &mut [u8], rule: TypeIdRule) -> usize
-    requires { Lent t.now × (write_check rule (tables_from t.now) (length src.now) (length out.old) ≡ Pass) }
+fn write_image(t: &FlatTable, src: &[u8], out: &mut [u8], rule: TypeIdRule) -> usize
+    requires { write_check rule (tables_from t.now) (length src.now) (length out.old) ≡ Ok tt }
     ensures { Put out.old 0 (size_of rule (used_of (tables_from t.now))) (image_of rule Constants src.now (tables_from t.now)) out.new result }
 {
     let type_id = view_at(t, TYPE_ID);
@@ -146,79 +115,73 @@ fn write_image(t: &[u32], src: &[u8], out: &mut [u8], rule: TypeIdRule) -> usize
 
 // 5, 4 and 2, in this order, for an image of `total` octets and an output of `room`.
 #[tactic(auto, using(crate::proofs::Answers::no_room_refuses, crate::proofs::Answers::type_refuses, crate::proofs::Answers::sizes_decide, crate::proofs::Checked::small_short, table::proofs::Entries::type_id_entry))]
-fn check_output(t: &[u32], total: usize, room: usize, rule: TypeIdRule) -> Check
-    requires { Lent t.now × (counts_check (tables_from t.now) ≡ Pass) × (total ≡ size_of rule (used_of (tables_from t.now))) }
+fn check_output(t: &FlatTable, total: usize, room: usize, rule: TypeIdRule) -> Check
+    requires { (counts_check (tables_from t.now) ≡ Ok tt) × (total ≡ size_of rule (used_of (tables_from t.now))) }
     ensures { result ≡ both (room_check (size_of rule (used_of (tables_from t.now))) room) (both (type_check rule (tables_from t.now).type_id) (each own_short (owned_of (used_of (tables_from t.now))))) }
 {
     if room < total {
-        return Check::Refuse(no_room(total, room));
+        return Err(no_room(total, room));
     }
     let type_id = view_at(t, TYPE_ID);
     if !allows(rule, type_id.len as usize) {
-        return Check::Refuse(wrong(4, PLACE_TYPE_ID_LENGTH));
+        return Err(wrong(4, PLACE_TYPE_ID_LENGTH));
     }
     // In an image of at most 255 octets no component is longer.
     if total <= 255 {
-        return Check::Pass;
+        return Ok(());
     }
     check_sizes(t)
 }
 
 // Writes the image, whose length measuring has told, at the start of `out`, and answers that length; or refuses with 5, 4 or 2, and leaves `out` as it is.
 pub fn write_measured(
-    t: &[u32],
+    t: &FlatTable,
     src: &[u8],
     out: &mut [u8],
     total: usize,
     rule: TypeIdRule,
     way: AddressWay,
 ) -> Answer
-    requires { Lent t.now × (measure_check rule (tables_from t.now) (length src.now) ≡ Pass) × (total ≡ size_of rule (used_of (tables_from t.now))) }
+    requires { (measure_check rule (tables_from t.now) (length src.now) ≡ Ok tt) × (total ≡ size_of rule (used_of (tables_from t.now))) }
     ensures { By.Writes rule way (tables_from t.now) src.now out.old result out.new }
 {
-    let found = check_output(t, total, out.len(), rule);
-    if let Check::Refuse(r) = found {
-        return Answer::Refused(r);
-    }
+    check_output(t, total, out.len(), rule)?;
     match way {
-        AddressWay::Constants => Answer::Count(write_image(t, src, out, rule)),
+        AddressWay::Constants => Ok(write_image(t, src, out, rule)),
     }
 }
 
 // The same of a table that rule 1 measures with `total` octets: the rule's gap comes on top, and with it 10.
 pub fn write_sound(
-    t: &[u32],
+    t: &FlatTable,
     src: &[u8],
     out: &mut [u8],
     total: usize,
     rule: TypeIdRule,
     way: AddressWay,
 ) -> Answer
-    requires { Lent t.now × (measure_check Multiple (tables_from t.now) (length src.now) ≡ Pass) × (total ≡ size_of Multiple (used_of (tables_from t.now))) }
+    requires { (measure_check Multiple (tables_from t.now) (length src.now) ≡ Ok tt) × (total ≡ size_of Multiple (used_of (tables_from t.now))) }
     ensures { By.Writes rule way (tables_from t.now) src.now out.old result out.new }
 {
-    match with_gap(t, total, rule) {
-        Answer::Count(n) => write_measured(t, src, out, n, rule, way),
-        Answer::Refused(why) => Answer::Refused(why),
-    }
+    let n = with_gap(t, total, rule)?;
+    write_measured(t, src, out, n, rule, way)
 }
 
 // Writes the image under the rule and in the way at the start of `out` and answers its length; or refuses, and leaves `out` as it is.
 pub fn write_from_by(
-    t: &[u32],
+    t: &FlatTable,
     src: &[u8],
     out: &mut [u8],
     rule: TypeIdRule,
     way: AddressWay,
 ) -> Answer
-    requires { Lent t.now }
     ensures { By.Writes rule way (tables_from t.now) src.now out.old result out.new }
 {
     let s = survey_of(t, src.len());
     if is_sound(s, t, src.len(), rule) {
         return write_measured(t, src, out, image_size(s, t, rule), rule, way);
     }
-    Answer::Refused(refusal_of(s, t, src.len(), rule))
+    Err(refusal_of(s, t, src.len(), rule))
 }
 
 // The length of the image of tables by value, under the rule; or 6, 8, 9 or 10.
@@ -240,8 +203,7 @@ pub fn write_by(t: Tables, src: &[u8], out: &mut [u8], rule: TypeIdRule, way: Ad
 }
 
 // The three that name neither: rule 1, and an address with its constants.
-pub fn write_from(t: &[u32], src: &[u8], out: &mut [u8]) -> Answer
-    requires { Lent t.now }
+pub fn write_from(t: &FlatTable, src: &[u8], out: &mut [u8]) -> Answer
     ensures { Writes (tables_from t.now) src.now out.old result out.new }
 {
     write_from_by(t, src, out, TypeIdRule::Multiple, AddressWay::Constants)

@@ -1,23 +1,22 @@
+use borrow.Author.Rules.{rules}
 use mathlib.Core.Path.{sym, ap, ◌∙◌}
 use native.Mathlib.Omega.{arith}
-use Rattle.reference.specs.declared.Check.TheVariants.{Refuse}
-use Rattle.faults.proofs.Order.{too_many_profiles, stop_taps, stop_names, at_extras}
+use Rattle.std.specs.Prelude.{Err}
+use Rattle.faults.proofs.Order.{too_many_profiles, from_counts}
+use Rattle.faults.proofs.Going.{passes_on, goes_on}
 use Rattle.faults.proofs.check_counts.Goals as goal
 
 pub returns-then-number_at-gt-PROFILES : goal.returns-then-number_at-gt-PROFILES
-returns-then-number_at-gt-PROFILES c =
-    let a = c.args in
-    ap Refuse c.wrong.ensures ∙ sym (too_many_profiles a.t.now (omega arith))
+returns-then-number_at-gt-PROFILES c = ap Err c.wrong.ensures ∙ sym (too_many_profiles c.args.t.now (omega arith))
 
-pub returns-in-Refuse : goal.returns-in-Refuse
-returns-in-Refuse c =
-    stop_taps c.args.t.now (omega arith) c.requires.1 c.requires.2 c.requires.3 (sym c.check_used-taps.ensures ∙ c.in-Refuse.is)
+pub returns-in_err-check_used : goal.returns-in_err-check_used
+returns-in_err-check_used c =
+    from_counts c.args.t.now (omega arith) c.requires.0 c.requires.1 c.requires.2 (passes_on _ _ _ (search rules) c.from_residual.ensures.1)
 
-pub returns-in-Refuse-names : goal.returns-in-Refuse-names
-returns-in-Refuse-names c =
-    stop_names c.args.t.now (omega arith) c.requires.1 c.requires.2 c.requires.3 (sym c.check_used-taps.ensures ∙ c.in_default.is) (sym c.check_used-names.ensures ∙ c.in-Refuse-names.is)
+pub returns-in_err-check_used-2 : goal.returns-in_err-check_used-2
+returns-in_err-check_used-2 c =
+    from_counts c.args.t.now (omega arith) c.requires.0 c.requires.1 c.requires.2 (goes_on _ _ (search rules) (passes_on _ _ _ (search rules) c.from_residual-in_err-check_used-2.ensures.1))
 
 pub returns : goal.returns
 returns c =
-    c.check_used.ensures
-    ∙ at_extras c.args.t.now (omega arith) c.requires.1 c.requires.2 c.requires.3 (sym c.check_used-taps.ensures ∙ c.in_default.is) (sym c.check_used-names.ensures ∙ c.in_default-names.is)
+    from_counts c.args.t.now (omega arith) c.requires.0 c.requires.1 c.requires.2 (goes_on _ _ (search rules) (goes_on _ _ (search rules) (search rules)))

@@ -1,34 +1,28 @@
-use Prim.Native.Nat.{ℕ, ◌+◌}
-use mathlib.Core.Path.{sym, ap, ap₂, ◌∙◌}
-use Rattle.octets.specs.Octets.{part}
-use Rattle.reference.specs.Checks.{both, each}
-use Rattle.reference.specs.Meaning.{sum}
-use Rattle.reference.specs.Writer.{tap_size, short_check, extra_short}
-use Rattle.reference.specs.declared.View.{View}
+use borrow.Author.Rules.{rules}
+use mathlib.Core.Path.{◌∙◌}
 use Rattle.survey.specs.ByTable.{used_in}
+use Rattle.faults.proofs.Going.{passes_on, goes_on}
 use Rattle.faults.proofs.Short.{short_biop, short_other}
+use Rattle.faults.proofs.check_profile.Goals.{then-sort_at-eq-BIOP+in_ok-check_short+in_ok-check_short-2, else-sort_at-eq-BIOP}
 use Rattle.faults.proofs.check_profile.Goals as goal
 
-pub returns-then-sort_at-ne-BIOP : goal.returns-then-sort_at-ne-BIOP
-returns-then-sort_at-ne-BIOP c =
+pub returns-in_err-check_short : goal.returns-in_err-check_short
+returns-in_err-check_short c =
     let a = c.args in
-    let x = c.extras_at.ensures.0 in
-    let sort = c.sort_at.ensures in
-    let t = a.t.now in
-    c.check_extras-extras.ensures
-    ∙ ap (λ (k : ℕ). each extra_short (part (used_in t).extras a.extra k)) x
-    ∙ short_other (used_in t).taps (used_in t).extras a.tap a.extra _ _ (λ e. c.if-sort_at-ne-BIOP.true (sort ∙ e))
+    let u = used_in a.t.now in
+    short_biop u.taps u.extras a.tap a.extra _ _ (search rules) (passes_on _ _ _ (search rules) c.from_residual.ensures.1)
+
+pub returns-in_err-check_short-2 : goal.returns-in_err-check_short-2
+returns-in_err-check_short-2 c =
+    let a = c.args in
+    let u = used_in a.t.now in
+    short_biop u.taps u.extras a.tap a.extra _ _ (search rules) (goes_on _ _ (search rules) (passes_on _ _ _ (search rules) c.from_residual-in_err-check_short-2.ensures.1))
 
 pub returns : goal.returns
 returns c =
     let a = c.args in
-    let t = a.t.now in
-    let u = used_in t in
-    let sort = sym c.sort_at.ensures ∙ c.if-sort_at-ne-BIOP.false in
-    let extras = c.check_extras-extras.ensures ∙ ap (λ (n : ℕ). each extra_short (part u.extras a.extra n)) c.extras_at.ensures.0 in
-    let location = c.check_short-location.ensures ∙ ap (λ (y : View). short_check (9 + y.len)) c.profile_view-key.ensures in
-    let taps = c.taps_size.ensures.0 ∙ ap (λ (n : ℕ). sum tap_size (part u.taps a.tap n)) c.taps_at.ensures.0 in
-    let binder = c.check_short-binder.ensures ∙ ap (λ (n : ℕ). short_check (1 + n)) taps in
-    c.then-2.ensures
-    ∙ ap₂ both location (c.then.ensures ∙ ap₂ both binder extras)
-    ∙ short_biop u.taps u.extras a.tap a.extra _ _ sort
+    let u = used_in a.t.now in
+    elim c.if-sort_at-eq-BIOP.branch [
+      | then-sort_at-eq-BIOP+in_ok-check_short+in_ok-check_short-2 w ↦ short_biop u.taps u.extras a.tap a.extra _ _ (search rules) (goes_on _ _ (search rules) (goes_on _ _ (search rules) (search rules)))
+      | else-sort_at-eq-BIOP w ↦ short_other u.taps u.extras a.tap a.extra _ _ (λ e. w.if-sort_at-eq-BIOP.false (c.sort_at.ensures ∙ e)) (search rules)
+    ]

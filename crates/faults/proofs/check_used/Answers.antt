@@ -1,21 +1,15 @@
 use mathlib.Core.Path.{sym, ap, ◌∙◌}
 use native.Mathlib.Omega.{arith}
 use lib.ListN.{get_or}
-use Rattle.reference.specs.declared.Check.TheVariants.{Refuse}
-use Rattle.reference.proofs.Checks.{stop, go, passed, le_test, eq_test, lt_test, ne_test}
+use Rattle.std.specs.Prelude.{Err}
+use Rattle.reference.proofs.Checks.{passed, le_test, eq_test}
+use Rattle.faults.proofs.Order.{count_fails}
 use Rattle.faults.proofs.check_used.Goals as goal
 
 pub returns-then-size-used : goal.returns-then-size-used
 returns-then-size-used c =
     let a = c.args in
-    ap Refuse c.wrong.ensures ∙ sym (stop _ _ _ (lt_test (get_or a.t.now a.k 0) a.size _ (omega arith)))
-
-pub returns-then-total-used : goal.returns-then-total-used
-returns-then-total-used c =
-    let a = c.args in
-    let u = c.number_at-used.ensures.0 in
-    ap Refuse c.wrong-then-total-used.ensures
-    ∙ sym (go _ _ (le_test (get_or a.t.now a.k 0) a.size _ (omega arith)) ∙ ne_test a.total (get_or a.t.now a.k 0) _ (λ e. c.if-total-used.true (e ∙ sym u)))
+    ap Err c.wrong.ensures ∙ count_fails a.place a.size a.total c.number_at-used.ensures.0 c.then-size-used.either
 
 pub returns : goal.returns
 returns c =

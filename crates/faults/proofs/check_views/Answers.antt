@@ -1,23 +1,22 @@
-use Prim.Native.Nat.{ℕ, ◌+◌, ◌*◌}
-use mathlib.Core.Path.{ap, ap₂, ◌∙◌}
-use Rattle.reference.specs.Checks.{both, each}
-use Rattle.reference.specs.Writer.{view_check, entry_views}
-use Rattle.table.specs.Flat.{profile_of_table, tap_region, extra_region}
-use Rattle.table.specs.Region.{listed}
-use Rattle.survey.specs.Seen.{name_view, extra_view}
-use Rattle.faults.proofs.Views.{row, by_row}
+use borrow.Author.Rules.{rules}
+use Rattle.faults.proofs.Views.{from_rows}
+use Rattle.faults.proofs.Going.{passes_on, goes_on}
 use Rattle.faults.proofs.check_views.Goals as goal
 
+pub returns-in_err-check_view : goal.returns-in_err-check_view
+returns-in_err-check_view c = from_rows c.args.n c.args.t.now (passes_on _ _ _ (search rules) c.from_residual.ensures.1)
+
+pub returns-in_err-check_profiles : goal.returns-in_err-check_profiles
+returns-in_err-check_profiles c =
+    from_rows c.args.n c.args.t.now (goes_on _ _ (search rules) (passes_on _ _ _ (search rules) c.from_residual-in_err-check_profiles.ensures.1))
+
+pub returns-in_err-check_row : goal.returns-in_err-check_row
+returns-in_err-check_row c =
+    from_rows c.args.n c.args.t.now (goes_on _ _ (search rules) (goes_on _ _ (search rules) (passes_on _ _ _ (search rules) c.from_residual-in_err-check_row.ensures.1)))
+
+pub returns-in_err-check_row-2 : goal.returns-in_err-check_row-2
+returns-in_err-check_row-2 c =
+    from_rows c.args.n c.args.t.now (goes_on _ _ (search rules) (goes_on _ _ (search rules) (goes_on _ _ (search rules) (passes_on _ _ _ (search rules) c.from_residual-in_err-check_row-2.ensures.1))))
+
 pub returns : goal.returns
-returns c =
-    let a = c.args in
-    let n = a.n in
-    let t = a.t.now in
-    let extras = c.check_row-extras.ensures ∙ ap (row n t 43 extra_view extra_region.width) c.used_at-4.ensures in
-    let names = c.check_row-names.ensures ∙ ap (λ (k : ℕ). row n t 42 name_view 2 (2 * k)) c.used_at-3.ensures in
-    let taps = c.check_row-taps.ensures ∙ ap (row n t 41 (tap_region.start + 3) tap_region.width) c.used_at-2.ensures in
-    let profiles = c.check_profiles-profiles.ensures ∙ ap (λ (k : ℕ). each (entry_views n) (listed k (profile_of_table t))) c.used_at.ensures in
-    let front = c.check_view-type_id.ensures ∙ ap (view_check n 0) c.view_at.ensures in
-    c.then-4.ensures
-    ∙ ap₂ both front (c.then-3.ensures ∙ ap₂ both profiles (c.then-2.ensures ∙ ap₂ both taps (c.then.ensures ∙ ap₂ both names extras)))
-    ∙ by_row n t
+returns c = from_rows c.args.n c.args.t.now (goes_on _ _ (search rules) (goes_on _ _ (search rules) (goes_on _ _ (search rules) (goes_on _ _ (search rules) (search rules)))))

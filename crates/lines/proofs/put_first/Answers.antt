@@ -1,18 +1,24 @@
-use mathlib.Core.Path.{sym, ap}
+use mathlib.Core.Path.{◌≡◌, sym, ap, ◌∙◌}
 use native.Mathlib.Omega.{arith}
+use borrow.Author.Rules.{rules}
+use Rattle.std.specs.Prelude.{Some, None, Ok}
 use Rattle.text.proofs.Texts.{sized, then, loose}
 use Rattle.lines.specs.Lines.{first_text}
 use Rattle.lines.proofs.put_first.Goals as goal
 
-pub returns-in-At : goal.returns-in-At
+pub returns-in-Ok-Some : goal.returns-in-Ok-Some
 unfolding first_text
-returns-in-At c = loose c.put_accepted.ensures 88 (omega arith) (sym (ap first_text c.in-At.is))
+returns-in-Ok-Some c =
+    let at : c.args.first ≡ Ok (Some c.in-Ok-Some.i) = c.in-Ok-Some.is ∙ ap Ok (rw c.in-Ok-Some.is at c.in-Ok-Some.field-0-is) in
+    loose c.put_accepted.ensures 88 (omega arith) (sym (ap first_text at))
 
-pub returns-in-Nothing : goal.returns-in-Nothing
+pub returns-in-Ok-None : goal.returns-in-Ok-None
 unfolding first_text
-returns-in-Nothing c = loose (sized c.put_word.ensures) 88 (omega arith) (sym (ap first_text c.in-Nothing.is))
+returns-in-Ok-None c =
+    let nothing : c.args.first ≡ Ok None = search rules in
+    loose (sized c.put_word.ensures) 88 (omega arith) (sym (ap first_text nothing))
 
-pub returns-in-Refused : goal.returns-in-Refused
+pub returns-in-Err : goal.returns-in-Err
 unfolding first_text
-returns-in-Refused c =
-    loose (then c.put_refusal-none.ensures (sized c.put_word-in-Refused.ensures)) 88 (omega arith) (sym (ap first_text c.in-Refused.is))
+returns-in-Err c =
+    loose (then c.put_refusal-none.ensures (sized c.put_word-in-Err.ensures)) 88 (omega arith) (sym (ap first_text c.in-Err.is))

@@ -9,11 +9,10 @@ use Rattle.lines.proofs.put_table.Goals as goal
 
 pub loop-i-init : goal.loop-i-init
 unfolding table_text
-loop-i-init c = (omega arith, sized (none _ _ (omega arith)), refl, refl)
+loop-i-init c = (sized (none _ _ (omega arith)), refl)
 
 pub loop-i-preserved : goal.loop-i-preserved
 loop-i-preserved c =
     let l = c.loop-i in
-    let t = c.args.table.now in
     let p = c.put_item-next.ensures in
-    (omega arith, loose (then l.invariant.1 p) (42 * (l.i + 1)) (omega arith) (table_more t l.i), kept p.put ∙ l.invariant.2, refl)
+    (loose (then l.invariant.0 p) (42 * (l.i + 1)) (omega arith) (table_more c.args.table.now l.i), kept p.put ∙ l.invariant.1)

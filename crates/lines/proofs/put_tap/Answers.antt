@@ -4,10 +4,10 @@ use Rattle.text.proofs.Texts.{sized, then, loose}
 use Rattle.lines.specs.Lines.{tap_text}
 use Rattle.lines.proofs.put_tap.Goals as goal
 
-pub returns-in-Neither : goal.returns-in-Neither
+pub returns-in-None : goal.returns-in-None
 unfolding tap_text
-returns-in-Neither c = loose (sized c.put_word.ensures) 41 (omega arith) (sym (ap tap_text c.in-Neither.is))
+returns-in-None c = loose (sized c.put_word.ensures) 41 (omega arith) (sym (ap tap_text c.in-None.is))
 
-pub returns-in-Both : goal.returns-in-Both
+pub returns-in-Some : goal.returns-in-Some
 unfolding tap_text
-returns-in-Both c = loose (then c.put_decimal-next.ensures c.put_spaced.ensures) 41 (omega arith) (sym (ap tap_text c.in-Both.is))
+returns-in-Some c = loose (then c.put_decimal-next.ensures c.put_spaced.ensures) 41 (omega arith) (sym (ap tap_text c.in-Some.is))

@@ -1,5 +1,5 @@
 use mathlib.Core.Path.{◌≡◌}
-use Prim.Native.Nat.{◌+◌, ◌-◌, ◌≤◌}
+use Prim.Native.Nat.{◌+◌}
 use lib.ListN.{length}
 use Rattle.octets.specs.Octets.{part}
 use Rattle.octets.specs.Put.{Put}
@@ -7,7 +7,4 @@ use Rattle.octets.proofs.copy_few.Given as goal
 
 -- `octets::copy_few` meets its contract. The loop's invariant: the first i octets of the part were put. Assumes nothing.
 abbrev pub invariant-loop-i : goal.invariant-loop-i
-invariant-loop-i l = (l.i ≤ l.n) × Put l.initial.out l.at l.i (part l.src l.from l.i) l.out (l.at + l.i) × (length l.out ≡ length l.initial.out)
-
-abbrev pub decreases-loop-i : goal.decreases-loop-i
-decreases-loop-i l = l.n - l.i
+invariant-loop-i l = Put l.initial.out l.at l.i (part l.src l.from l.i) l.out (l.at + l.i) × (length l.out ≡ length l.initial.out)

@@ -1,20 +1,19 @@
-use mathlib.Core.Path.{refl, sym, ◌∙◌}
-use Prim.Native.Nat.{◌+◌}
+use mathlib.Core.Path.{refl, ap, ◌∙◌}
 use native.Mathlib.Omega.{arith}
-use Rattle.octets.proofs.Put.{none, then, same, store, kept}
-use Rattle.octets.proofs.Blank.{blank_more}
+use Rattle.octets.specs.Blank.{blank}
+use Rattle.octets.proofs.Blank.{length_blank}
+use Rattle.octets.proofs.Part.{length_part}
+use Rattle.octets.proofs.Splice.{splice_back}
 use Rattle.octets.proofs.put_blank.Goals as goal
 
-pub loop-i-init : goal.loop-i-init
-loop-i-init c = (omega arith, same (none _ _ (omega arith)) refl refl (omega arith), refl)
-
-pub loop-i-preserved : goal.loop-i-preserved
-loop-i-preserved c =
-    let l = c.loop-i in
+pub returns : goal.returns
+returns c =
     let a = c.args in
-    let i = l.i in
-    let step = store l.out (a.at + i) 0xFF (omega arith) in (
-      omega arith,
-      same (then l.invariant.1 step) refl (sym (blank_more i)) (omega arith),
-      kept step ∙ l.invariant.2,
-    )
+    let k = a.k in
+    let n = length_part a.out.now a.at k (omega arith) in
+    record {
+      size = length_blank k;
+      next = refl;
+      room = omega arith;
+      left = splice_back _ _ _ _ _ (c.fill.ensures.after (λ y h. h) ∙ ap blank (omega (arith, n))) (omega (arith, length_blank k));
+    }

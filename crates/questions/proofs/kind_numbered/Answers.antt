@@ -1,17 +1,21 @@
 use mathlib.Core.Path.{refl, sym, ◌∙◌}
 use native.Mathlib.Omega.{arith}
+use mathlib.Core.List.{[]}
+use Rattle.reference.specs.declared.ObjectKind.TheVariants.{Directory}
 use Rattle.reference.specs.Questions.{kinds, kind_numbered}
-use Rattle.questions.proofs.Cases.{kind_here, kind_later}
+use Rattle.questions.proofs.Cases.{fours, row_here, row_later}
 use Rattle.questions.proofs.kind_numbered.Goals as goal
 
-pub loop-i-init : goal.loop-i-init
+pub loop-row-init : goal.loop-row-init
 unfolding kind_numbered
-loop-i-init c = (omega arith, refl)
+loop-row-init c = refl
 
-pub returns-then-row_is : goal.returns-then-row_is
-returns-then-row_is c =
-    c.kind_at.ensures ∙ sym (kind_here kinds c.loop-i.i _ (omega arith) (sym c.row_is.ensures ∙ c.if-row_is.true)) ∙ c.loop-i.invariant.1
+pub returns-then-n-be32 : goal.returns-then-n-be32
+returns-then-n-be32 c =
+    let i = c.loop-row.row-index in
+    sym (row_here kinds _ i c.args.n (omega arith) (fours _ i (omega arith)) (c.if-n-be32.true ∙ c.be32.ensures)) ∙ c.loop-row.invariant
 
-pub loop-i-preserved : goal.loop-i-preserved
-loop-i-preserved c =
-    (omega arith, sym (kind_later kinds c.loop-i.i _ (omega arith) (sym c.row_is.ensures ∙ c.if-row_is.false)) ∙ c.loop-i.invariant.1)
+pub loop-row-preserved : goal.loop-row-preserved
+loop-row-preserved c =
+    let i = c.loop-row.row-index in
+    sym (row_later kinds ([], Directory) i c.args.n (omega arith) (fours _ i (omega arith)) (λ e. c.if-n-be32.false (e ∙ sym c.be32.ensures))) ∙ c.loop-row.invariant

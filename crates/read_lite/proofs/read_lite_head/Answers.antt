@@ -1,11 +1,12 @@
+use borrow.Author.Rules.{rules}
 use Rattle.read_lite.proofs.Beginning.{fixed_no, one_at_least, fixed_on}
 use Rattle.read_lite.proofs.read_lite_head.Goals as goal
 
 pub overflow_sub-count : goal.overflow_sub-count
-overflow_sub-count c = search one_at_least
+overflow_sub-count c = search (one_at_least, c.in_ok-count.was, rules)
 
-pub returns-in-Not : goal.returns-in-Not
-returns-in-Not c = search fixed_no
+pub returns-in_err-count : goal.returns-in_err-count
+returns-in_err-count c = search (fixed_no, c.in_err-count.was, rules)
 
-pub returns-in-Got : goal.returns-in-Got
-returns-in-Got c = search fixed_on
+pub returns : goal.returns
+returns c = search (fixed_on, c.in_ok-count.was, rules)

@@ -3,13 +3,13 @@ use Rattle.reading.proofs.References.{no_head, no_profiles_lem, last_inside, clo
 use Rattle.reading.proofs.read_reference.Goals as goal
 
 pub finish-requires : goal.finish-requires
-finish-requires c = (search last_inside, search rules)
+finish-requires c = search (last_inside, c.in_ok-opening.was, c.in_ok-used.was)
 
-pub returns-in-Not : goal.returns-in-Not
-returns-in-Not c = search no_head
+pub returns-in_err-opening : goal.returns-in_err-opening
+returns-in_err-opening c = search (no_head, c.in_err-opening.was, rules)
 
-pub returns-in-Not-read_profiles : goal.returns-in-Not-read_profiles
-returns-in-Not-read_profiles c = search no_profiles_lem
+pub returns-in_err-used : goal.returns-in_err-used
+returns-in_err-used c = search (no_profiles_lem, c.in_ok-opening.was, c.in_err-used.was, rules)
 
-pub returns-in-Got-read_profiles : goal.returns-in-Got-read_profiles
-returns-in-Got-read_profiles c = search closed
+pub returns : goal.returns
+returns c = search (closed, c.in_ok-opening.was, c.in_ok-used.was)

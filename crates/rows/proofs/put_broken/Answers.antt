@@ -1,10 +1,6 @@
-use mathlib.Core.Path.{refl}
-use native.Mathlib.Omega.{arith}
-use Rattle.text.proofs.Texts.{sized, then, loose}
 use Rattle.rows.specs.Rows.{broken_text}
 use Rattle.rows.proofs.put_broken.Goals as goal
 
 pub returns : goal.returns
 unfolding broken_text
-returns c =
-    loose (then (then (sized c.put_word-number.ensures) c.put_spaced-end.ensures) (sized c.put_octet.ensures)) 80 (omega arith) refl
+returns c = c.put_line.ensures

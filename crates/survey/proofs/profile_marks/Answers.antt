@@ -15,6 +15,6 @@ loop-i-init c = (omega arith, omega arith, marks_none _)
 pub loop-i-preserved : goal.loop-i-preserved
 loop-i-preserved c =
     let t = c.args.t.now in
-    let one = c.profile_seen-one in
+    let one = c.profile_seen-fields in
     let told = ap (λ (s : Survey). holds s.fields) one.ensures.0 ∙ profile_fields 0 (omega arith) t (entry profile_region c.loop-i.i) in
     (omega arith, c.loop-i.invariant.1, marks_more (λ k. profile_exact t (entry profile_region k)) c.loop-i.fields one.result.fields c.loop-i.i c.loop-i.invariant.2 told)

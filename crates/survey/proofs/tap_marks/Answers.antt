@@ -15,6 +15,6 @@ loop-i-init c = (omega arith, omega arith, marks_none _)
 pub loop-i-preserved : goal.loop-i-preserved
 loop-i-preserved c =
     let t = c.args.t.now in
-    let one = c.tap_seen-one in
+    let one = c.tap_seen-fields in
     let told = ap (λ (s : Survey). holds s.fields) one.ensures.0 ∙ tap_fields 0 (omega arith) t (entry tap_region c.loop-i.i) in
     (omega arith, c.loop-i.invariant.1, marks_more (λ k. tap_exact t (entry tap_region k)) c.loop-i.fields one.result.fields c.loop-i.i c.loop-i.invariant.2 told)

@@ -5,13 +5,12 @@ use Rattle.text.specs.Text.{hexes}
 use Rattle.text.proofs.Hexes.{hexes_more}
 use Rattle.text.proofs.put_hexes.Goals as goal
 
-pub loop-i-init : goal.loop-i-init
+pub loop-v-init : goal.loop-v-init
 unfolding hexes
-loop-i-init c = (omega arith, none _ _ (omega arith), refl, refl)
+loop-v-init c = (none _ _ (omega arith), refl)
 
-pub loop-i-preserved : goal.loop-i-preserved
-loop-i-preserved c =
-    let l = c.loop-i in
-    let s = c.args.s.now in
+pub loop-v-preserved : goal.loop-v-preserved
+loop-v-preserved c =
+    let l = c.loop-v in
     let p = c.put_hex-next.ensures in
-    (omega arith, same (then l.invariant.1 p) (omega arith) (hexes_more s l.i (omega arith)) refl, kept p ∙ l.invariant.2, refl)
+    (same (then l.invariant.0 p) (omega arith) (hexes_more c.args.s.now l.v-index (omega arith)) refl, kept p ∙ l.invariant.1)

@@ -1,9 +1,6 @@
 -- As many answers as pieces.
-use Rattle.std.proofs.Common.{◌+◌, ◌-◌, ◌≡◌, ◌≤◌}
+use Rattle.std.proofs.Common.{◌+◌, ◌≡◌}
 use Rattle.worked.proofs.cuts.Given as goal
 
 abbrev pub invariant-loop-j : goal.invariant-loop-j
-invariant-loop-j g l = (l.one + l.two + l.other ≡ l.j) × (l.j ≤ l.n)
-
-abbrev pub decreases-loop-j : goal.decreases-loop-j
-decreases-loop-j g l = l.n - l.j
+invariant-loop-j g l = l.one + l.two + l.other ≡ l.j

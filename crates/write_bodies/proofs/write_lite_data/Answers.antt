@@ -13,8 +13,8 @@ use Rattle.write_bodies.proofs.Ahead.{part_count}
 use Rattle.write_bodies.proofs.write_lite_data.Goals as goal
 
 pub returns : goal.returns
-unfolding layout_lite data_of
+unfolding layout_lite data_of tables_from
 returns c =
-    let n = part_count (tables_from c.args.t.now).extras c.args.extra c.args.extras (extra_of c.args.src.now) (omega (arith, extras_length c.args.t.now)) in
+    let n = part_count (tables_from c.args.t.now).extras c.args.first.extras c.args.count.extras (extra_of c.args.src.now) (omega (arith, extras_length c.args.t.now)) in
     let h = same c.write_fixed-a.ensures refl (ap (λ (k : ℕ). octets 1 0 ++ octets 1 (k + 1)) (sym n)) refl in
-    same (two (octets 1 0) _ h (then c.write_service-b.ensures (last c.write_extras.ensures))) (omega arith) refl refl
+    same (two (octets 1 0) _ h (then c.write_service-b.ensures (last c.write_entries.ensures))) (omega arith) refl refl

@@ -10,8 +10,8 @@ use Rattle.write_bodies.proofs.Ahead.{part_count}
 use Rattle.write_bodies.proofs.write_service_data.Goals as goal
 
 pub returns : goal.returns
-unfolding layout_service
+unfolding layout_service tables_from
 returns c =
-    let n = part_count (tables_from c.args.t.now).names c.args.name c.args.names (name_of c.args.src.now) (omega (arith, names_length c.args.t.now)) in
+    let n = part_count (tables_from c.args.t.now).names c.args.first.names c.args.count.names (name_of c.args.src.now) (omega (arith, names_length c.args.t.now)) in
     let h = same c.put32-c.ensures refl (ap (octets 4) (sym n)) refl in
-    same (then c.put8-a.ensures (then c.write_address-b.ensures (then h (then c.write_names-d.ensures c.write_run.ensures)))) (omega arith) refl refl
+    same (then c.put8-a.ensures (then c.write_address-b.ensures (then h (then c.write_entries-d.ensures c.write_run.ensures)))) (omega arith) refl refl

@@ -24,7 +24,7 @@ pub write_type_id-a-requires : goal.write_type_id-a-requires
 write_type_id-a-requires c =
     let a = c.args in
     let t = tables_from a.t.now in
-    let p = passing a.rule t (length a.src.now) (length a.out.now) c.requires.1 in
+    let p = passing a.rule t (length a.src.now) (length a.out.now) c.requires in
     let e = c.view_at-type_id.ensures ∙ sym (type_id_entry a.t.now) in
     record {
       within = subst (Within (length a.src.now)) (sym e) (type_within a.rule t _ (length a.out.now) p);
@@ -35,7 +35,7 @@ pub put32-b-requires : goal.put32-b-requires
 put32-b-requires c =
     let a = c.args in
     let t = tables_from a.t.now in
-    let p = passing a.rule t (length a.src.now) (length a.out.now) c.requires.1 in
+    let p = passing a.rule t (length a.src.now) (length a.out.now) c.requires in
     let e = c.view_at-type_id.ensures ∙ sym (type_id_entry a.t.now) in
     let w = c.write_type_id-a.ensures in
     omega (arith, ap (λ (x : View). x.len + gap_length a.rule x.len) e, whole_room a.rule t (length a.src.now) (length a.out.now) p, w, kept w)
@@ -44,12 +44,12 @@ pub write_profiles-requires : goal.write_profiles-requires
 write_profiles-requires c =
     let a = c.args in
     let t = tables_from a.t.now in
-    let p = passing a.rule t (length a.src.now) (length a.out.now) c.requires.1 in
+    let p = passing a.rule t (length a.src.now) (length a.out.now) c.requires in
     let e = c.view_at-type_id.ensures ∙ sym (type_id_entry a.t.now) in
     let w = c.write_type_id-a.ensures in
     let v = c.put32-b.ensures in
     record {
-      lent = (c.requires.0, counts_written a.rule t (length a.src.now) (length a.out.now) c.requires.1, used_sound a.rule a.src.now t (length a.out.now) p);
+      counted_and_sound = (counts_written a.rule t (length a.src.now) (length a.out.now) c.requires, used_sound a.rule a.src.now t (length a.out.now) p);
       t_in_bounds =
           omega (arith, ap (λ (x : View). x.len + gap_length a.rule x.len) e, whole_room a.rule t (length a.src.now) (length a.out.now) p, kept v ∙ kept w, v, w);
     }
@@ -61,7 +61,7 @@ returns c =
     let a = c.args in
     let t = tables_from a.t.now in
     let s = a.src.now in
-    let p = passing a.rule t (length s) (length a.out.now) c.requires.1 in
+    let p = passing a.rule t (length s) (length a.out.now) c.requires in
     let e = c.view_at-type_id.ensures ∙ sym (type_id_entry a.t.now) in
     let head =
     subst (λ (x : View). Put a.out.now 0 (4 + x.len + gap_length a.rule x.len) (gapped a.rule (shown s x)) c.write_type_id-a.new.out c.write_type_id-a.result) e

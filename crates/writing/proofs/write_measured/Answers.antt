@@ -1,29 +1,30 @@
-use mathlib.Core.Path.{sym, ◌∙◌}
+use borrow.Author.Rules.{rules}
+use mathlib.Core.Path.{◌∙◌}
 use lib.ListN.{length}
+use Rattle.reference.proofs.Steps.{passed_on}
 use Rattle.table.specs.Flat.{tables_from}
 use Rattle.writing.proofs.Answers.{output_decides, counts_pass, refuses, accepts}
 use Rattle.writing.proofs.write_measured.Goals as goal
 
-pub check_output-found-requires : goal.check_output-found-requires
-check_output-found-requires c =
+pub check_output-requires : goal.check_output-requires
+check_output-requires c =
     let a = c.args in
-    (c.requires.0, counts_pass a.rule (tables_from a.t.now) (length a.src.now) (length a.out.now) c.requires.1, c.requires.2)
+    (counts_pass a.rule (tables_from a.t.now) (length a.src.now) (length a.out.now) c.requires.0, c.requires.1)
 
 -- measuring has passed, so the checks of the output decide
-pub returns-in-Refuse : goal.returns-in-Refuse
-returns-in-Refuse c =
+pub returns-in_err-check_output : goal.returns-in_err-check_output
+returns-in_err-check_output c =
     let a = c.args in
-    let t = tables_from a.t.now in
-    refuses a.rule a.way t a.src.now a.out.now (output_decides a.rule t (length a.src.now) (length a.out.now) c.requires.1 ∙ sym c.check_output-found.ensures ∙ c.in-Refuse.is)
+    rw (passed_on c.from_residual.result c.from_residual.ensures.1)
+    (refuses a.rule a.way (tables_from a.t.now) a.src.now a.out.now (output_decides a.rule (tables_from a.t.now) (length a.src.now) (length a.out.now) c.requires.0 ∙ search rules))
 
 pub write_image-requires : goal.write_image-requires
 write_image-requires c =
     let a = c.args in
-    (c.requires.0, output_decides a.rule (tables_from a.t.now) (length a.src.now) (length a.out.now) c.requires.1 ∙ sym c.check_output-found.ensures ∙ c.in_default.is)
+    output_decides a.rule (tables_from a.t.now) (length a.src.now) (length a.out.now) c.requires.0 ∙ search rules
 
 pub returns : goal.returns
 returns c =
     let a = c.args in
-    let t = tables_from a.t.now in
-    accepts a.rule a.way t a.src.now a.out.now
-    (output_decides a.rule t (length a.src.now) (length a.out.now) c.requires.1 ∙ sym c.check_output-found.ensures ∙ c.in_default.is) c.write_image.ensures
+    accepts a.rule a.way (tables_from a.t.now) a.src.now a.out.now
+    (output_decides a.rule (tables_from a.t.now) (length a.src.now) (length a.out.now) c.requires.0 ∙ search rules) c.write_image.ensures

@@ -1,11 +1,13 @@
 use mathlib.Core.Path.{◌≡◌, sym, ◌∙◌, subst}
 use mathlib.Core.List.{List}
 use Prim.Native.Nat.{ℕ, ◌+◌, ◌≤◌}
+use native.Mathlib.Omega.{arith}
 use lib.ListN.{length}
 use Rattle.reference.specs.declared.TaggedProfile.{TaggedProfile}
 use Rattle.reference.specs.Writer.{own_size}
 use Rattle.table.specs.declared.Counts.{Counts}
-use Rattle.table.specs.Flat.{body_of_table}
+use Rattle.table.specs.Flat.{body_of_table, profile_region}
+use Rattle.table.specs.Region.{entry}
 use Rattle.write_bodies.specs.Own.{OwnSound, PutOwn}
 use Rattle.writing.specs.Own.{own_on, own_with}
 use Rattle.writing.proofs.Told.{biop_told, lite_told, opaque_told}
@@ -26,42 +28,40 @@ pub write_biop-requires : goal.write_biop-requires
 write_biop-requires c =
     let a = c.args in
     let (n, placed) = c.requires.count_value in
-    let e = biop_told _ _ _ a.count n (sym c.sort_at-sort.ensures ∙ c.if-sort-eq-BIOP.true) c.location_at-location.ensures in
+    let e = biop_told _ _ _ a.count n (sym c.sort_at.ensures ∙ c.in-1.is) c.location_at.ensures in
     record {
-      lent = (c.requires.i_lt_size.1, placed.taps, placed.extras);
+      entries_within = (placed.taps, placed.extras);
       own_sound = sound a.t.now a.i a.first e (length a.src.now) c.requires.own_sound;
       extras_in_bounds = roomy a.t.now a.i a.first e a.at (length a.out.now) c.requires.first_in_bounds;
     }
 
-pub returns-then-sort-eq-BIOP : goal.returns-then-sort-eq-BIOP
-returns-then-sort-eq-BIOP c =
+pub returns-in-1 : goal.returns-in-1
+returns-in-1 c =
     let a = c.args in
-    let e = biop_told _ _ _ a.count c.requires.count_value.0 (sym c.sort_at-sort.ensures ∙ c.if-sort-eq-BIOP.true) c.location_at-location.ensures in
+    let e = biop_told _ _ _ a.count c.requires.count_value.0 (sym c.sort_at.ensures ∙ c.in-1.is) c.location_at.ensures in
     wrote a.t.now a.i a.first e a.src.now c.write_biop.ensures
 
 pub write_lite-requires : goal.write_lite-requires
 write_lite-requires c =
     let a = c.args in
     let (n, placed) = c.requires.count_value in
-    let e = lite_told _ _ _ _ a.count n (sym c.sort_at-sort.ensures ∙ c.if-sort-eq-LITE_OPTIONS.true) c.address_at-address.ensures c.profile_view-view.ensures in
+    let e = lite_told _ _ _ _ a.count n (sym c.sort_at.ensures ∙ c.in-2.is) c.address_at-address.ensures c.profile_view.ensures in
     record {
-      lent = (c.requires.i_lt_size.1, placed.names, placed.extras);
+      entries_within = (placed.names, placed.extras);
       own_sound = sound a.t.now a.i a.first e (length a.src.now) c.requires.own_sound;
       extras_in_bounds = roomy a.t.now a.i a.first e a.at (length a.out.now) c.requires.first_in_bounds;
     }
 
-pub returns-then-sort-eq-LITE_OPTIONS : goal.returns-then-sort-eq-LITE_OPTIONS
-returns-then-sort-eq-LITE_OPTIONS c =
+pub returns-in-2 : goal.returns-in-2
+returns-in-2 c =
     let a = c.args in
-    let e =
-    lite_told _ _ _ _ a.count c.requires.count_value.0 (sym c.sort_at-sort.ensures ∙ c.if-sort-eq-LITE_OPTIONS.true) c.address_at-address.ensures
-    c.profile_view-view.ensures in
+    let e = lite_told _ _ _ _ a.count c.requires.count_value.0 (sym c.sort_at.ensures ∙ c.in-2.is) c.address_at-address.ensures c.profile_view.ensures in
     wrote a.t.now a.i a.first e a.src.now c.write_lite.ensures
 
-pub returns : goal.returns
-returns c =
+pub returns-in_default : goal.returns-in_default
+returns-in_default c =
     let a = c.args in
     let e =
-    opaque_told _ _ _ _ (λ k. c.if-sort-eq-BIOP.false (c.sort_at-sort.ensures ∙ k)) (λ k. c.if-sort-eq-LITE_OPTIONS.false (c.sort_at-sort.ensures ∙ k))
-    c.tag_at.ensures c.profile_view-view.ensures in
+    opaque_told a.t.now (entry profile_region a.i) _ _ (λ k. omega (arith, c.sort_at.ensures, k)) (λ k. omega (arith, c.sort_at.ensures, k)) c.tag_at.ensures
+    c.profile_view-in_default.ensures in
     wrote a.t.now a.i a.first e a.src.now c.write_opaque.ensures

@@ -1,4 +1,4 @@
-use mathlib.Core.Path.{refl, sym, ap, ◌∙◌, subst}
+use mathlib.Core.Path.{sym, ap, ◌∙◌, subst}
 use Prim.Native.Nat.{◌+◌, ◌<◌}
 use native.Mathlib.Omega.{arith}
 use lib.ListN.{length}
@@ -18,29 +18,30 @@ use Rattle.writing.proofs.Walked.{left_at, Walked, walk_placed, walk_on_lem, wal
 use Rattle.writing.proofs.write_profiles.Goals as goal
 
 pub loop-i-init : goal.loop-i-init
-loop-i-init c = (
-  omega arith,
-  c.number_at-used.ensures.0 ∙ sym (profiles_used_lem c.args.t.now),
-  record { taps = refl; names = refl; extras = refl },
-  begin refl (omega arith) c.requires.lent.2,
-)
+loop-i-init c =
+    let (taps, (names, extras)) = c.default-first.ensures in (
+      omega arith,
+      c.number_at-used.ensures.0 ∙ sym (profiles_used_lem c.args.t.now),
+      record { taps = taps; names = names; extras = extras },
+      begin (λ j. left_at c.args.t.now 0 (record { taps = taps j; names = names j; extras = extras j })) (omega arith) c.requires.counted_and_sound.1,
+    )
 
 pub counts_at-count-requires : goal.counts_at-count-requires
 counts_at-count-requires c =
-    let p = agreeing (tables_from c.args.t.now) c.requires.lent.1 in
-    (omega (arith, c.loop-i.invariant.1, p.profiles), c.requires.lent.0)
+    let p = agreeing (tables_from c.args.t.now) c.requires.counted_and_sound.0 in
+    omega (arith, c.loop-i.invariant.1, p.profiles)
 
 -- the profile of a turn, whose entries lie within the tables, and those after it
 pub write_profile-pos-requires : goal.write_profile-pos-requires
 write_profile-pos-requires c =
     let t = c.args.t.now in
     let l = c.loop-i in
-    let p = agreeing (tables_from t) c.requires.lent.1 in
+    let p = agreeing (tables_from t) c.requires.counted_and_sound.0 in
     let h : l.i < (tables_from t).profiles_used = omega (arith, l.invariant.1) in
     let o = walk_open t p l.i l.first l.invariant.2 h in
     let n = c.counts_at-count.ensures in
     record {
-      i_lt_size = (omega (arith, l.invariant.1, p.profiles), c.requires.lent.0);
+      i_lt_size = omega (arith, l.invariant.1, p.profiles);
       count_value = (n, subst (Placed l.first) (sym n) (walk_placed t p l.i l.first l.invariant.2 h));
       own_sound = fits o l.invariant.3;
       first_in_bounds = room o l.invariant.3 c.requires.t_in_bounds;
@@ -50,7 +51,7 @@ pub after-first-requires : goal.after-first-requires
 after-first-requires c =
     let t = c.args.t.now in
     let l = c.loop-i in
-    let p = agreeing (tables_from t) c.requires.lent.1 in
+    let p = agreeing (tables_from t) c.requires.counted_and_sound.0 in
     subst (Placed l.first) (sym c.counts_at-count.ensures) (walk_placed t p l.i l.first l.invariant.2 (omega (arith, l.invariant.1)))
 
 pub loop-i-preserved : goal.loop-i-preserved
@@ -59,7 +60,7 @@ loop-i-preserved c =
     let t = a.t.now in
     let s = a.src.now in
     let l = c.loop-i in
-    let p = agreeing (tables_from t) c.requires.lent.1 in
+    let p = agreeing (tables_from t) c.requires.counted_and_sound.0 in
     let h : l.i < (tables_from t).profiles_used = omega (arith, l.invariant.1) in
     let e = sym (c.after-first.ensures ∙ ap (after_of l.first) c.counts_at-count.ensures) in
     let w = c.write_profile-pos in (

@@ -1,5 +1,5 @@
 use mathlib.Core.Path.{◌≡◌}
-use Prim.Native.Nat.{◌-◌, ◌≤◌}
+use Prim.Native.Nat.{◌≤◌}
 use lib.ListN.{length}
 use Rattle.reference.specs.Layout.{layout_profile}
 use Rattle.reference.specs.Used.{owned_of}
@@ -17,6 +17,3 @@ abbrev pub invariant-loop-i : goal.invariant-loop-i
 invariant-loop-i l =
     (l.i ≤ l.used) × (l.used ≡ (tables_from l.t).profiles_used) × Walked l.t l.i l.first
     × Left (profile_of l.src) layout_profile own_size (OwnSound (length l.src)) l.initial.out l.at (owned_of (used_in l.t)) (left_at l.t l.i l.first) l.out l.pos
-
-abbrev pub decreases-loop-i : goal.decreases-loop-i
-decreases-loop-i l = l.used - l.i

@@ -1,0 +1,8 @@
+use Rattle.reference.proofs.Parts.{tap_reads}
+use Rattle.read_parts.proofs.Moves.{octets_of_slice, moved}
+use Rattle.read_biop.proofs.TapEntriesEntries.read.Goals as goal
+
+pub returns-clause-moves : goal.returns-clause-moves
+returns-clause-moves c a next e =
+    let d = c.args.d.now in
+    moved tap_reads d c.args.pos c.args.end (octets_of_slice d (λ k. (c.type_inv.d k).fits)) c.requires.0 c.requires.1 e
