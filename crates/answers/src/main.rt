@@ -2,13 +2,13 @@
 // request and of a line.
 #![tactic(auto)]
 
-ghost use Rattle.std.specs.Prelude.{◌≡◌, ◌*◌, ◌≤◌, IfOk};
+ghost use Rattle.std.specs.Prelude.{◌≡◌, ◌*◌, ◌≤◌, IfOk, length, replicate};
 ghost use Rattle.octets.specs.Octets.{be, part};
 ghost use Rattle.table.specs.Region.{listed};
 ghost use Rattle.table.specs.Flat.{table_size};
 
 use faults::length_from;
-use intake::fill_from;
+use intake::{Stopped, fill_from};
 use lines::{put_answer, put_first, put_kind, put_name, put_output, put_table, put_tap, put_where};
 use names::{read_short_name, write_short_name};
 use octets::be32;
@@ -51,10 +51,15 @@ struct Rooms {
 
 // ---- the parts of a request
 
+// How many octets of a part had come is told to nobody: its request has no line.
+fn not_read(stopped: Stopped) -> Failure {
+    Failure::NotRead(stopped.error)
+}
+
 // Fills `part` from standard input. A request that is cut is bad, as is each that breaks a rule below: the input is broken there.
 fn take_into<R: Read>(input: &mut R, part: &mut [u8]) -> Outcome {
     let n = part.len();
-    if fill_from(input, part).map_err(Failure::NotRead)? < n {
+    if fill_from(input, part).map_err(not_read)? < n {
         return Err(Failure::Broken);
     }
     Ok(())
@@ -79,7 +84,9 @@ fn take_size<R: Read>(input: &mut R) -> Result<usize, Failure>
 }
 
 // A source, at the start of `src`.
-fn take_source<'a, R: Read>(input: &mut R, src: &'a mut [u8; MOST]) -> Result<&'a [u8], Failure> {
+fn take_source<'a, R: Read>(input: &mut R, src: &'a mut [u8; MOST]) -> Result<&'a [u8], Failure>
+    ensures { IfOk result (λ source. length source.now ≤ 70000) }
+{
     let n = take_size(input)?;
     take_into(input, &mut src[..n])?;
     Ok(&src[..n])
@@ -101,10 +108,19 @@ fn take_table<R: Read>(input: &mut R, table: &mut FlatTable) -> Outcome {
     Ok(())
 }
 
-fn take_view<R: Read>(input: &mut R) -> Result<View, Failure> {
-    let at = u32::from_be_bytes(take(input)?);
-    let len = u32::from_be_bytes(take(input)?);
-    Ok(View { at, len })
+// A name by its views, four octets each number. Taken at once: a read for each number would take half as long again.
+fn take_name<R: Read>(input: &mut R) -> Result<NameComponent, Failure> {
+    let octets: [u8; 16] = take(input)?;
+    Ok(NameComponent {
+        id: View {
+            at: be32(&octets, 0),
+            len: be32(&octets, 4),
+        },
+        kind: View {
+            at: be32(&octets, 8),
+            len: be32(&octets, 12),
+        },
+    })
 }
 
 // A rule; bad if its octet numbers none.
@@ -189,6 +205,13 @@ fn answer_length<R: Read>(input: &mut R, rooms: &mut Rooms, rule: TypeIdRule) ->
     Ok(())
 }
 
+// An output before a writing.
+fn fill(out: &mut [u8])
+    ensures { out.new ≡ replicate (length out.old) 165 }
+{
+    out.fill(BEFORE);
+}
+
 // The line of a writing into an output that held the same octet throughout.
 fn answer_written<R: Read, F: FnOnce(&FlatTable, &[u8], &mut [u8]) -> Answer>(
     input: &mut R,
@@ -201,7 +224,7 @@ fn answer_written<R: Read, F: FnOnce(&FlatTable, &[u8], &mut [u8]) -> Answer>(
     let src = take_source(input, &mut rooms.src)?;
     let whole: &mut [u8] = &mut rooms.out;
     let out = &mut whole[..m];
-    out.fill(BEFORE);
+    fill(out);
     let answer = write(&rooms.table, src, out);
     let at = put_answer(&mut rooms.line, 0, answer);
     rooms.used = put_output(&mut rooms.line, at, out);
@@ -247,9 +270,7 @@ fn answer_name_where<R: Read>(input: &mut R, rooms: &mut Rooms) -> Outcome {
 }
 
 fn answer_name_writing<R: Read>(input: &mut R, rooms: &mut Rooms) -> Outcome {
-    let id = take_view(input)?;
-    let kind = take_view(input)?;
-    let name = NameComponent { id, kind };
+    let name = take_name(input)?;
     answer_written(input, rooms, |_, src, out| write_short_name(name, src, out))
 }
 
@@ -321,7 +342,7 @@ fn answer<R: Read>(input: &mut R, rooms: &mut Rooms, op: u8) -> Outcome {
 // The op that the next request begins with; none where the input has ended.
 fn take_op<R: Read>(input: &mut R) -> Result<Option<u8>, Failure> {
     let mut op = [0u8; 1];
-    let came = fill_from(input, &mut op).map_err(Failure::NotRead)?;
+    let came = fill_from(input, &mut op).map_err(not_read)?;
     if came == 0 {
         return Ok(None);
     }

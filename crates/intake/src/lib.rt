@@ -1,7 +1,7 @@
 // Input from a reader into lent slices: parts of a known length, and the records of a cache in blocks. A read that fails is told apart from the input's end.
 #![tactic(auto)]
 
-ghost use Rattle.std.specs.Prelude.{◌≡◌, ◌+◌, ◌-◌, ◌≤◌, ◌<◌, length, IfOk};
+ghost use Rattle.std.specs.Prelude.{◌≡◌, ◌+◌, ◌-◌, ◌≤◌, ◌<◌, length, IfOk, MatchResult};
 ghost use Rattle.intake.specs.Counts.{IsPrefixLen};
 ghost use Rattle.octets.specs.Octets.{part, splice};
 
@@ -17,18 +17,25 @@ fn read_some<R: Read>(input: &mut R, part: &mut [u8]) -> io::Result<usize>
     input.read(part)
 }
 
+// A read that failed, and how many octets had come before.
+#[derive(Drop)]
+pub struct Stopped {
+    pub count: usize,
+    pub error: io::Error,
+}
+
 // Reads until `part` is full: fewer octets came if the input ended.
-pub fn fill_from<R: Read>(input: &mut R, part: &mut [u8]) -> io::Result<usize>
-    ensures { IfOk result (λ count. count ≤ length part.old) }
+pub fn fill_from<R: Read>(input: &mut R, part: &mut [u8]) -> Result<usize, Stopped>
+    ensures { MatchResult result (λ count. count ≤ length part.old) (λ stopped. stopped.count ≤ length part.old) }
 {
     let room = part.len();
     let mut done: usize = 0;
     while done < room {
-        let count = read_some(input, &mut part[done..])?;
-        if count == 0 {
-            break;
+        match read_some(input, &mut part[done..]) {
+            Ok(0) => break,
+            Ok(count) => done += count,
+            Err(error) => return Err(Stopped { count: done, error }),
         }
-        done += count;
     }
     Ok(done)
 }
@@ -61,7 +68,7 @@ fn refill<R: Read>(input: &mut R, room: &mut [u8], from: usize, to: usize) -> io
 pub fn fetch<R: Read>(input: &mut R, room: &mut [u8], from: usize, to: usize) -> io::Result<usize>
     requires { (from ≤ to) × (to ≤ length room.old) × (65539 ≤ length room.old) }
     ensures count_bound { IfOk result (λ count. to + count ≤ from + length room.old) }
-    ensures from_after { IfOk result (λ count. 0 < count → part room.new 0 (to - from) ≡ part room.old from (to - from)) }
+    ensures from_after { MatchResult result (λ count. 0 < count → part room.new 0 (to - from) ≡ part room.old from (to - from)) (λ _. part room.new 0 (to - from) ≡ part room.old from (to - from)) }
 {
     if 4 + announced_by(&room[from..to]) as usize <= to - from {
         return Ok(0);
