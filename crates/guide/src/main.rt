@@ -3,7 +3,7 @@
 #![tactic(auto)]
 
 use ior::{FlatTable, TABLE};
-use outcome::{Failure, run_named};
+use outcome::{input_name, tell_written};
 use reference::{
     AddressWay, Answer, ObjectKind, ObjectLocation, Reading, Refusal, Tables, TaggedProfile,
     TypeIdRule, View,
@@ -153,5 +153,7 @@ fn run(to: &impl Print) -> io::Result<()> {
 }
 
 fn main(rt: HostRuntime) -> ExitCode {
-    run_named(&rt, || run(&rt).map_err(Failure::NotWritten))
+    let mut room = [0u8; 4096];
+    let name = input_name(&rt, &mut room);
+    tell_written(&rt.stderr(), rt.alloc(), run(&rt), name)
 }

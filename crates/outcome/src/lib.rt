@@ -3,7 +3,7 @@
 // with 141 where nobody reads the output any more.
 #![tactic(auto)]
 
-ghost use Rattle.std.specs.Prelude.{◌≡◌, Err, Bool, is_some, cond};
+ghost use Rattle.std.specs.Prelude.{◌≡◌, Ok, Err, Bool, is_some, cond, MatchResult};
 ghost use Rattle.std.specs.Process.{exit_status};
 ghost use Rattle.outcome.specs.Status.{status_of};
 ghost use Rattle.outcome.specs.declared.Failure.TheVariants.{NotWritten};
@@ -98,6 +98,21 @@ pub fn tell(err: &impl Print, alloc: Global, outcome: Outcome, name: Option<&[u8
             tell_status(2, is_named)
         }
         Err(Failure::NotWritten(error)) => tell_not_written(err, alloc, error, is_named),
+    }
+}
+
+// The outcome of a program that only writes.
+pub fn tell_written(
+    err: &impl Print,
+    alloc: Global,
+    written: io::Result<()>,
+    name: Option<&[u8]>,
+) -> ExitCode
+    ensures { MatchResult written (λ _. exit_status result ≡ status_of (is_some name.entry) (Ok tt)) (λ e. exit_status result ≡ status_of (is_some name.entry) (Err (NotWritten e))) }
+{
+    match written {
+        Ok(()) => tell(err, alloc, Ok(()), name),
+        Err(error) => tell(err, alloc, Err(Failure::NotWritten(error)), name),
     }
 }
 
