@@ -141,7 +141,9 @@ pub fn is_sound(s: Survey, t: &FlatTable, n: usize, rule: TypeIdRule) -> bool
     n <= MOST && check_counts(t, s).is_ok() && s.ends < BOUND && image_size(s, t, rule) <= MOST
 }
 
-// What measuring refuses with, where it does not pass: 6, 8, 9 or 10.
+// What measuring refuses with, where it does not pass: 6, 8, 9 or 10. Apart from its caller: inlined there, it takes the registers of the table that is sound.
+#[cold]
+#[inline(never)]
 pub fn refusal_of(s: Survey, t: &FlatTable, n: usize, rule: TypeIdRule) -> Refusal
     requires { Surveyed (min n 65535) t.now s × (passing (measure_check rule (tables_from t.now) n) ≡ false) }
     ensures { measure_check rule (tables_from t.now) n ≡ Err result }

@@ -123,7 +123,7 @@ module _ (s : List ℕ) (o : Octets s) (t a : List ℕ) (r : ℕ) (b e : List �
   pub c_whole_is_leading : r ≡ 0 → (IorRead s t a r b e) × (get_or b 4 0 ≡ length s)
   c_whole_is_leading = rules.c_whole_is_leading Multiple s o t a r b e c
 
-  -- Err readings of a whole slice: the same as of a leading part.
+  -- Refused readings of a whole slice: the same as of a leading part.
   pub c_unasked_whole_leaves_all : r ≡ 255 → (b ≡ a) × (e ≡ t)
   c_unasked_whole_leaves_all = rules.c_unasked_whole_leaves_all Multiple s o t a r b e c
 

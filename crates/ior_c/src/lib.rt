@@ -50,22 +50,21 @@ pub const NAME: usize = 4;
 fn put_answer(a: Answer, out: &mut [u64; ANSWER]) -> u32
     ensures { (result ≡ number_of a) × (out.new ≡ numbers_of a) }
 {
-    let (number, numbers) = match a {
-        Ok(n) => (0, [0, 0, 0, 0, n as u64, 0]),
-        Err(why) => (
-            why.number as u32,
-            [
-                why.number as u64,
-                why.place as u64,
-                why.first as u64,
-                why.second as u64,
-                0,
-                why.offset as u64,
-            ],
-        ),
-    };
-    out.copy_from_slice(&numbers);
-    number
+    out.fill(0);
+    match a {
+        Ok(n) => {
+            out[4] = n as u64;
+            0
+        }
+        Err(why) => {
+            out[0] = why.number as u64;
+            out[1] = why.place as u64;
+            out[2] = why.first as u64;
+            out[3] = why.second as u64;
+            out[5] = why.offset as u64;
+            why.number as u32
+        }
+    }
 }
 
 // The rule that a number names, and the way.
