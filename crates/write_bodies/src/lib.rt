@@ -27,7 +27,7 @@ use write_parts::{
 };
 
 // An entry that an image shows, and how it is written there.
-trait Written: Entry {
+pub trait Written: Entry {
     // What an entry means over the source, what that looks like, and how many octets it has.
     ghost Meaning: { Type 0 };
 
@@ -95,7 +95,7 @@ impl Written for LiteComponent {
 }
 
 // The entries of a table, `count` from `first` on.
-fn write_entries<E: Written>(
+pub fn write_entries<E: Written>(
     t: &FlatTable,
     first: usize,
     count: usize,
